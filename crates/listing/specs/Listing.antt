@@ -1,0 +1,101 @@
+-- What *shelve* prints. Assumes nothing: these are definitions.
+use mathlib.Core.List.{List, [], _∷_, _++_}
+use Prim.Native.Nat.{ℕ, suc}
+use lib.Dec.{eqb, ltb}
+use lib.ListN.{length}
+use Rattle.counting.specs.Tests.{pick}
+use Rattle.counting.specs.Lists.{Pair, table, join, each}
+use Rattle.counting.specs.Checks.{Check, first, done}
+use Rattle.racks.specs.Limits.{HAND}
+use Rattle.racks.specs.Racks.{slots}
+use Rattle.racks.specs.Numbers.{tooShort}
+use Rattle.racks.specs.Answers.{answer, noCounts, written}
+use Rattle.racks.specs.declared.Tally.{Tally}
+use Rattle.racks.specs.declared.Answer.{Answer}
+use Rattle.moves.specs.Blocks.{block}
+use Rattle.moves.specs.Moves.{Held}
+use Rattle.moves.specs.Phases.{phases}
+use Rattle.shuffle.specs.Copies.{copyList}
+use Rattle.shuffle.specs.Shuffle.{settledHeld}
+use Rattle.runs.specs.Run.{gathered, counts}
+use Rattle.jobfile.specs.File.{fileRacks, fileBytes, filePlaces, fileCards, fileChecks}
+use Rattle.listing.specs.Text.{text, decimal, hex}
+
+-- the most bytes of a file that the program takes
+abbrev pub FILE : ℕ
+FILE = 32768
+
+-- a slot, or `h` for the hand
+unfoldable pub slotText : ℕ → List ℕ
+slotText x = pick (eqb x HAND) (text "h") (decimal x)
+
+-- a move or a copy: a space, then from>to
+unfoldable pub arrow : Pair → List ℕ
+arrow m = text " " ++ slotText (m .0) ++ text ">" ++ slotText (m .1)
+
+-- the phase lines, the first with number k: the phase number, then from>to in plan order
+unfoldable pub phaseLines : ℕ → List (List Pair) → List ℕ
+phaseLines k [] = []
+phaseLines k (pairs ∷ rest) = text "phase " ++ decimal k ++ text ":" ++ join (each arrow pairs) ++ text "\n" ++ phaseLines (suc k) rest
+
+-- the copy list; with none, the line is `copies:`
+unfoldable pub copiesLine : List Pair → List ℕ
+copiesLine copies = text "copies:" ++ join (each arrow copies) ++ text "\n"
+
+-- a space, then slot g's bytes, with nothing between them
+unfoldable pub cardText : ℕ → List ℕ → ℕ → List ℕ
+cardText b cards g = text " " ++ join (each hex (block b g cards))
+
+-- each slot's final bytes
+unfoldable pub cardsLine : ℕ → ℕ → List ℕ → List ℕ
+cardsLine s b cards = text "cards:" ++ join (table s (cardText b cards)) ++ text "\n"
+
+-- the three counts
+unfoldable pub endLine : Tally → List ℕ
+endLine t =
+    text "end: phases " ++ decimal (t .phases) ++ text " moves " ++ decimal (t .moves) ++ text " copies " ++ decimal (t .copies)
+    ++ text "\n"
+
+-- a refusal prints only one line
+unfoldable pub refusedLine : ℕ → List ℕ
+refusedLine n = text "refused " ++ decimal n ++ text "\n"
+
+-- the program looks at 18 before all else; its own lists have room for every job, so there is no 17
+unfoldable pub programChecks : List ℕ → List Check
+programChecks file = (ltb FILE (length file), 18) ∷ fileChecks file
+
+module _ (file : List ℕ) where
+  -- the table and the cards of the file
+  unfoldable pub fileHeld : Held
+  fileHeld = record { places = filePlaces file; cards = fileCards file }
+
+  -- the table and the cards after all phases
+  unfoldable pub fileGathered : Held
+  fileGathered = gathered (fileRacks file) (fileBytes file) fileHeld
+
+  -- a run: phases, copies, cards, end
+  unfoldable pub runText : List ℕ
+  runText =
+      phaseLines 1 (phases (fileRacks file) (filePlaces file))
+      ++ copiesLine (copyList (fileGathered .places))
+      ++ cardsLine (slots (fileRacks file)) (fileBytes file) (settledHeld (fileRacks file) (fileBytes file) fileGathered .cards)
+      ++ endLine (counts (fileRacks file) (fileBytes file) fileHeld)
+
+  -- **shelve**: the text that it prints for a file
+  unfoldable pub listing : List ℕ
+  listing =
+      let n = first (programChecks file) in
+      pick (done n) runText (refusedLine n)
+
+-- the outcome of listing into a lent buffer: the number, how many bytes the text has, and the buffer at exit
+pub record Printed : Type 0 where
+  pub answer : Answer
+  pub size : ℕ
+  pub lent : List ℕ
+
+-- **The listing as a call.** A text that says `refused` is written like any other; 13 where the buffer is too short for the text
+unfoldable pub printed : List ℕ → List ℕ → Printed
+printed file lent =
+    let out = listing file in
+    let n = first ((tooShort lent out, 13) ∷ []) in
+    record { answer = answer n noCounts; size = pick (done n) (length out) 0; lent = written n lent out }
