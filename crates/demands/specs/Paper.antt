@@ -15,7 +15,7 @@ use Rattle.counting.specs.Checks.{first}
 use Rattle.racks.specs.Racks.{ofCaps, rackAt, users, width, total, base, slots, endsBy, rackOf, spareOf, isUser}
 use Rattle.racks.specs.Table.{free, settled, rackTo, onRack, away, aways, awayTo, bound, owes, freeOn, names}
 use Rattle.racks.specs.Numbers.{badCount, badBytes, tooLarge, badSize, badPlaces, badCards, badEntry, badEntries, repeats, badTwice, noSlot, sourceFree, sourceHome, elsewhere, targetTaken, someAway, tooShort, tableChecks, cardChecks}
-use Rattle.racks.specs.Answers.{checked}
+use Rattle.tables.specs.Check.{checked}
 use Rattle.phases.specs.Plan.{other, sources, lowest, granted, openSlots, room, arrivals, planFor, plan}
 use Rattle.moves.specs.Blocks.{block, putBlock, blank}
 use Rattle.moves.specs.Moves.{movedPlaces, movedCards, carriedPlaces, carriedCards, moveChecks, moved}

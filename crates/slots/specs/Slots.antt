@@ -1,0 +1,44 @@
+-- "Slot question." Assumes nothing: these are definitions.
+use mathlib.Core.List.{List, [], _∷_, _++_}
+use Prim.Native.Nat.{ℕ}
+use Rattle.counting.specs.Tests.{pick}
+use Rattle.counting.specs.Checks.{Check, first, done}
+use Rattle.racks.specs.Racks.{Rack, isUser}
+use Rattle.racks.specs.Table.{free, settled, away, rackTo}
+use Rattle.racks.specs.Numbers.{tableChecks, noSlot}
+use Rattle.racks.specs.Answers.{answer, noCounts}
+use Rattle.slots.specs.declared.Kind.{Kind}
+use Rattle.slots.specs.declared.Kind.the-variants as kind
+use Rattle.slots.specs.declared.State.{State}
+use Rattle.slots.specs.declared.State.the-variants as state
+use Rattle.slots.specs.declared.Slot.{Slot}
+use Rattle.slots.specs.declared.SlotAnswer.{SlotAnswer}
+
+-- user slot or spare
+unfoldable pub kindOf : List Rack → ℕ → Kind
+kindOf racks g = pick (isUser racks g) kind.User kind.Spare
+
+-- free, settled, away and to which rack, or on its rack but unsettled
+unfoldable pub stateOf : List Rack → List ℕ → ℕ → State
+stateOf racks places g =
+    pick (free places g) state.Free
+    (pick (settled places g) state.Settled
+    (pick (away racks places g) (state.Away (rackTo racks places g)) state.Unsettled))
+
+-- the slot on a refusal: none
+abbrev pub nothing : Slot
+nothing = record { kind = kind.None; state = state.None }
+
+-- a refusal: its number, no counts, and none
+abbrev pub refusedSlot : ℕ → SlotAnswer
+refusedSlot n = record { answer = answer n noCounts; slot = nothing }
+
+-- 1 to 7
+unfoldable pub slotChecks : List Rack → List ℕ → ℕ → List Check
+slotChecks racks places g = tableChecks racks places ++ (noSlot racks g, 7) ∷ []
+
+-- **Slot question.**
+unfoldable pub asked : List Rack → List ℕ → ℕ → SlotAnswer
+asked racks places g =
+    let n = first (slotChecks racks places g) in
+    record { answer = answer n noCounts; slot = pick (done n) (record { kind = kindOf racks g; state = stateOf racks places g }) nothing }

@@ -1,0 +1,56 @@
+// The slot question.
+ghost use mathlib.Core.Path.{_≡_};
+ghost use Rattle.racks.specs.Racks.{ofCaps};
+ghost use Rattle.slots.specs.Slots.{asked};
+use racks::Answer;
+use racks::Job;
+
+pub mod parts;
+
+// Whether a slot is a user slot or a spare; none on a refusal.
+pub enum Kind {
+    User,
+    Spare,
+    None,
+}
+
+// What stands in a slot: a card that is away comes with its destination's rack; none on a refusal.
+pub enum State {
+    Free,
+    Settled,
+    Unsettled,
+    Away(usize),
+    None,
+}
+
+pub struct Slot {
+    pub kind: Kind,
+    pub state: State,
+}
+
+pub struct SlotAnswer {
+    pub answer: Answer,
+    pub slot: Slot,
+}
+
+// Slot question: what slot g is, and what stands in it.
+pub fn slot_question(caps: &[u16], places: &[u16], g: usize) -> SlotAnswer
+    ensures { λ r. ⌜ r ≡ asked (ofCaps (now (caps .entry))) (now (places .entry)) g ⌝ }
+{
+    let job = Job::of(caps);
+    let mut racks = [0u8; 4096];
+    let number = tables::parts::table_number(job, places, &mut racks);
+    if number != 0 {
+        return parts::refused(number);
+    }
+    if places.len() <= g {
+        return parts::refused(7);
+    }
+    let answer = Answer::of(0);
+    let kind = parts::kind_of(job, &racks, g);
+    let state = parts::state_of(job, &racks, places, g);
+    SlotAnswer {
+        answer,
+        slot: Slot { kind, state },
+    }
+}

@@ -1,0 +1,12 @@
+-- The table check: a call of its own. Assumes nothing: these are definitions.
+use mathlib.Core.List.{List}
+use Prim.Native.Nat.{ℕ}
+use Rattle.counting.specs.Checks.{first}
+use Rattle.racks.specs.Racks.{Rack}
+use Rattle.racks.specs.Numbers.{tableChecks}
+use Rattle.racks.specs.Answers.{answer, noCounts}
+use Rattle.racks.specs.declared.Answer.{Answer}
+
+-- **Table check.** 0, 1, 3, 4, 5 or 6, and no counts
+unfoldable pub checked : List Rack → List ℕ → Answer
+checked racks places = answer (first (tableChecks racks places)) noCounts

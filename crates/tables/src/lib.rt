@@ -1,0 +1,18 @@
+// The table check.
+ghost use mathlib.Core.Path.{_≡_};
+ghost use Rattle.racks.specs.Racks.{ofCaps};
+ghost use Rattle.tables.specs.Check.{checked};
+use racks::Answer;
+use racks::Job;
+
+pub mod parts;
+
+// Table check: 0, 1, 3, 4, 5 or 6.
+pub fn check_table(caps: &[u16], places: &[u16]) -> Answer
+    ensures { λ r. ⌜ r ≡ checked (ofCaps (now (caps .entry))) (now (places .entry)) ⌝ }
+{
+    let job = Job::of(caps);
+    let mut racks = [0u8; 4096];
+    let number = parts::table_number(job, places, &mut racks);
+    Answer::of(number)
+}

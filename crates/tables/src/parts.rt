@@ -1,0 +1,131 @@
+// What the layers above share: each slot's rack in a table of bytes, and the number of a lent table.
+ghost use mathlib.Core.Path.{_≡_};
+ghost use mathlib.Core.List.{List};
+ghost use Prim.Native.Nat.{ℕ, _≤_, _<_};
+ghost use lib.ListN.{length};
+ghost use Rattle.racks.specs.Job.{racksOf, Sound};
+ghost use Rattle.tables.specs.Tables.{Laid, Marked, Between, Checked, CardsChecked};
+ghost use Rattle.tables.specs.Marks.{Entered, entriesNumber, worse};
+use racks::Job;
+
+// One value from `low` up to `high` in a table of bytes.
+pub fn fill(table: &mut [u8; 4096], low: usize, high: usize, value: u8)
+    requires { ⌜ (high ≤ 4096) × (length (now table) ≡ 4096) ⌝ }
+    ensures { λ _. ⌜ Between low high value (now (table .entry)) (now (table .exit)) ⌝ }
+{
+    let mut g = low;
+    while g < high {
+        table[g] = value;
+        g = g + 1;
+    }
+}
+
+// Each slot's rack into one table, and 1 for each user slot into the other.
+pub fn fill_tables(job: Job, table: &mut [u8; 4096], marks: &mut [u8; 4096])
+    requires { ⌜ Sound job ⌝ }
+    ensures { λ _. ⌜ Laid (racksOf job) (now (table .exit)) (now (marks .exit)) ⌝ }
+{
+    *table = [0; 4096];
+    *marks = [0; 4096];
+    let n = job.racks;
+    let mut low: usize = 0;
+    let mut p: usize = 0;
+    while p < n {
+        let spare = job.spares[p] as usize;
+        let end = job.ends[p] as usize;
+        fill(table, low, end, p as u8);
+        fill(marks, low, spare, 1);
+        low = end;
+        p = p + 1;
+    }
+}
+
+// The number of one entry: 5 where it names no user slot, 6 where that slot is named already; it is named from now on.
+fn entry_number(marks: &mut [u8; 4096], x: u16) -> u8
+    requires { ⌜ length (now marks) ≡ 4096 ⌝ }
+    ensures { λ r. ⌜ Entered (now (marks .entry)) x r (now (marks .exit)) ⌝ }
+{
+    if x == Job::FREE {
+        return 0;
+    }
+    let at = x as usize;
+    if 4096 <= at {
+        return 5;
+    }
+    let mark = marks[at];
+    if mark == 0 {
+        return 5;
+    }
+    if mark != 1 {
+        return 6;
+    }
+    marks[at] = 2;
+    0
+}
+
+// 6 where it is given, else what was.
+fn worse_of(was: u8, now: u8) -> u8
+    ensures { λ r. ⌜ r ≡ worse was now ⌝ }
+{
+    if now == 6 {
+        return 6;
+    }
+    was
+}
+
+// 5, 6 or 0 for the entries, S of them: one pass. The marks are lent with the user slots marked.
+fn entries_number(job: Job, places: &[u16], marks: &mut [u8; 4096]) -> u8
+    requires { ⌜ Sound job × (length (now places) ≡ job .slots) × Marked (racksOf job) (now marks) ⌝ }
+    ensures { λ r. ⌜ r ≡ entriesNumber (racksOf job) (now (places .entry)) ⌝ }
+{
+    let mut worst: u8 = 0;
+    let mut g: usize = 0;
+    while g < job.slots {
+        let number = entry_number(marks, places[g]);
+        if number == 5 {
+            return 5;
+        }
+        worst = worse_of(worst, number);
+        g = g + 1;
+    }
+    worst
+}
+
+// The number of a table; where it is 0, each slot's rack is in `racks`.
+pub fn table_number(job: Job, places: &[u16], racks: &mut [u8; 4096]) -> u8
+    requires { ⌜ (job .refused ≡ 0 → Sound job) ⌝ }
+    ensures { λ r. ⌜ Checked job (now (places .entry)) r (now (racks .exit)) ⌝ }
+{
+    if job.refused != 0 {
+        return job.refused;
+    }
+    if places.len() != job.slots {
+        return 4;
+    }
+    let mut marks = [0u8; 4096];
+    fill_tables(job, racks, &mut marks);
+    entries_number(job, places, &mut marks)
+}
+
+// The number of a table and its cards of B bytes; where it is 0, each slot's rack is in `racks`.
+pub fn cards_number(job: Job, b: usize, places: &[u16], cards: &[u8], racks: &mut [u8; 4096]) -> u8
+    requires { ⌜ (job .refused ≡ 0 → Sound job) ⌝ }
+    ensures { λ r. ⌜ CardsChecked job b (now (places .entry)) (now (cards .entry)) r (now (racks .exit)) ⌝ }
+{
+    if job.refused == 1 {
+        return 1;
+    }
+    if b == 0 {
+        return 2;
+    }
+    if Job::MAX_BYTES < b {
+        return 2;
+    }
+    if job.refused != 0 {
+        return job.refused;
+    }
+    if cards.len() != job.slots * b {
+        return 4;
+    }
+    table_number(job, places, racks)
+}
