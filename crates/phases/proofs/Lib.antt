@@ -1,1 +1,4 @@
 pub mod Allowed
+pub mod Grants
+pub mod Plans
+pub mod Possible

@@ -41,7 +41,7 @@ pub fn fill_tables(job: Job, table: &mut [u8; 4096], marks: &mut [u8; 4096])
 }
 
 // The number of one entry: 5 where it names no user slot, 6 where that slot is named already; it is named from now on.
-fn entry_number(marks: &mut [u8; 4096], x: u16) -> u8
+pub fn entry_number(marks: &mut [u8; 4096], x: u16) -> u8
     requires { ⌜ length (now marks) ≡ 4096 ⌝ }
     ensures { λ r. ⌜ Entered (now (marks .entry)) x r (now (marks .exit)) ⌝ }
 {
@@ -64,7 +64,7 @@ fn entry_number(marks: &mut [u8; 4096], x: u16) -> u8
 }
 
 // 6 where it is given, else what was.
-fn worse_of(was: u8, now: u8) -> u8
+pub fn worse_of(was: u8, now: u8) -> u8
     ensures { λ r. ⌜ r ≡ worse was now ⌝ }
 {
     if now == 6 {
