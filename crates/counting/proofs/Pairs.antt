@@ -35,3 +35,9 @@ unfolding pairUp
 pairwise-pairUp end q = end
 pairwise-pairUp (link x p) end = end
 pairwise-pairUp (link x p) (link y q) = link (all-pairUp x y) (pairwise-pairUp p q)
+
+-- nothing to pair with
+pub pairUp-nil : (a : List ℕ) → pairUp a [] ≡ []
+unfolding pairUp
+pairUp-nil [] = refl
+pairUp-nil (x ∷ a) = refl

@@ -1,25 +1,21 @@
 -- The bytes of slots in a buffer of n slots: what a slot holds after a store, and after a move. Assumes nothing.
-use mathlib.Core.Path.{_≡_, refl, sym, _∙_}
+use mathlib.Core.Path.{_≡_, sym, _∙_}
 use mathlib.Core.Logic.{_≢_}
-use mathlib.Core.List.{List, [], _∷_, _++_, append-assoc}
+use mathlib.Core.List.{List, _++_, append-assoc}
 use Prim.Native.Nat.{ℕ, zero, suc, _+_, _*_, _≤_, _<_}
 use native.Mathlib.Nat.{suc-mul, zero-mul, mul-le-mul-right, add-comm}
 use native.Mathlib.Omega.{arith}
 use native.Mathlib.Decide.{ℕ-discrete, decLt}
-use lib.ListN.{length, take, drop, getD, set, length-take, length-drop, length-replicate, take-append-drop}
-use lib.Seq.{sets, sets-eq, length-sets, take-at, drop-at, drop-drop, ext-getD, getD-take, getD-drop, getD-set-other, length-take-le}
+use lib.ListN.{length, take, drop, length-take, length-drop, length-replicate, take-append-drop}
+use lib.Seq.{sets-eq, length-sets, take-at, drop-at, drop-drop, ext-getD, getD-take, getD-drop, length-take-le}
 use Rattle.counting.specs.Lists.{Pair}
+use Rattle.counting.proofs.Stores.{sets-else}
 use Rattle.moves.specs.Blocks.{block, putBlock, blank}
 use Rattle.moves.specs.Moves.{movedCards}
 use Rattle.moves.proofs.Pairs.{Moved, Ends}
 
--- a store leaves what lies before it and behind it
-sets-else : (vs l : List ℕ) (i k : ℕ) → (i ≤ k → i + length vs ≤ k) → getD (sets l i vs) k 0 ≡ getD l k 0
-sets-else [] l i k h = refl
-sets-else (v ∷ vs) l i k h = sets-else vs (set l i v) (suc i) k (λ m. omega (arith, h (omega arith))) ∙ getD-set-other l i k v 0 (λ e. omega (arith, h (omega arith)))
-
 -- a slot below another ends where that one begins, or before
-below : (b g t : ℕ) → g < t → g * b + b ≤ t * b
+pub below : (b g t : ℕ) → g < t → g * b + b ≤ t * b
 below b g t h = rw suc-mul at (mul-le-mul-right b h)
 
 -- a store keeps the length of the buffer

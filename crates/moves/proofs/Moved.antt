@@ -2,7 +2,7 @@
 use mathlib.Core.Path.{_≡_, refl, ap, sym, _∙_}
 use mathlib.Core.Bool.{true, false}
 use mathlib.Core.Logic.{_≢_}
-use mathlib.Core.List.{List}
+use mathlib.Core.List.{List, [], _∷_}
 use Prim.Native.Nat.{ℕ, suc, _<_}
 use native.Mathlib.Omega.{arith}
 use native.Mathlib.Decide.{ℕ-discrete}
@@ -11,7 +11,9 @@ use lib.Seq.{getD-set-same, getD-set-other}
 use borrow.Author.Tests.{eqb-true, eq-eqb, ne-eqb}
 use Rattle.counting.specs.Count.{count}
 use Rattle.counting.specs.Lists.{Pair}
-use Rattle.counting.proofs.Tests.{by-test, off, no-way, both, and-l, and-r}
+use Rattle.counting.proofs.Tests.{by-test, off, no-way, both, and-l, and-r, and-off-l}
+use Rattle.counting.proofs.Every.All.{more, none}
+use Rattle.counting.proofs.Members.{among-none, among-last, besides, besides-in, besides-out, besides-off}
 use Rattle.counting.proofs.Count.{count-cong, count-change, count-move}
 use Rattle.racks.specs.Limits.{FREE}
 use Rattle.racks.specs.Racks.{Rack, slots, rackOf}
@@ -55,6 +57,15 @@ module _ {racks : List Rack} {places : List ℕ} {m : Pair} (l : Legal racks pla
   same-free : (g : ℕ) → g ≢ m .0 → g ≢ m .1 → free (movedPlaces m places) g ≡ free places g
   unfolding free
   same-free g a b = rw (moved .other g a b)
+
+  -- the target is not free
+  taken-to : free (movedPlaces m places) (m .1) ≡ false
+  unfolding free
+  taken-to = rw (moved .at-to) (f .is-held)
+
+  -- a slot that was not free is not, but for the source
+  pub taken-moved : (g : ℕ) → g ≢ m .0 → free places g ≡ false → free (movedPlaces m places) g ≡ false
+  taken-moved g a h = elim (ℕ-discrete g (m .1)) [ yes e ↦ rw e taken-to | no b ↦ same-free g a b ∙ h ]
 
   -- a card stands in slot g after the move: it came, or it stayed
   data Origin (g : ℕ) : Type 0 where
@@ -166,6 +177,19 @@ module _ {racks : List Rack} {places : List ℕ} {m : Pair} (l : Legal racks pla
         ∙ sym (bound-off racks (movedPlaces m places) i p (m .0) left-from))
     | no u ↦ bound-else i p j u
   ])
+
+  -- away to rack p are those that were, but for the card moved
+  pub to-moved : (p g : ℕ) → awayTo racks (movedPlaces m places) p g ≡ besides (m .0 ∷ []) (awayTo racks places p) g
+  unfolding awayTo rackTo
+  to-moved p g = elim (ℕ-discrete g (m .0)) [
+    | yes e ↦ rw e (and-off-l _ left-from ∙ sym (besides-in (m .0 ∷ []) (awayTo racks places p) (m .0) (among-last (m .0) [])))
+    | no u ↦ elim (ℕ-discrete g (m .1)) [
+      | yes e ↦ rw e (and-off-l _ left-to ∙ sym (besides-off (m .0 ∷ []) (awayTo racks places p) (m .1) (and-off-l _ away-to)))
+      | no v ↦
+          rw (← (same-away g u v), step .other g u v)
+          (sym (besides-out (m .0 ∷ []) (awayTo racks places p) g (among-none (more u none))))
+    ]
+  ]
 
   -- an allowed pair that shares no end with the pair moved stays allowed
   pub allowed-kept : {n : Pair} → Apart m n → Allowed racks places n → Allowed racks (movedPlaces m places) n

@@ -1,5 +1,5 @@
 -- The grants of a rack, source by source, are first fit over the slots. Assumes nothing.
-use mathlib.Core.Path.{_≡_, sym, _∙_}
+use mathlib.Core.Path.{_≡_, ap, sym, _∙_}
 use mathlib.Core.Bool.{false}
 use mathlib.Core.Logic.{_≢_}
 use mathlib.Core.List.{List, [], _∷_, _++_}
@@ -9,13 +9,13 @@ use native.Mathlib.Decide.{ℕ-discrete}
 use lib.ListN.{length, take, length-take}
 use lib.Seq.{take-nil}
 use borrow.Author.Tests.{eqb-true}
-use Rattle.counting.specs.Count.{count, select}
+use Rattle.counting.specs.Count.{sum, count, select}
 use Rattle.counting.specs.Lists.{table, join, each, pairUp}
 use Rattle.counting.proofs.Tests.{off, not-off-is}
 use Rattle.counting.proofs.Every.{All, all-take, Pairwise, pairwise-take, pairwise-map}
-use Rattle.counting.proofs.Select.{Hit, select-none, length-select, all-select, select-ascends, select-split, select-short}
-use Rattle.counting.proofs.Lists.{take-append, take-min, join-more, join-select}
-use Rattle.counting.proofs.Pairs.{pairUp-take}
+use Rattle.counting.proofs.Select.{Hit, select-none, length-select, all-select, select-ascends, select-split, select-short, sum-cong}
+use Rattle.counting.proofs.Lists.{take-append, take-min, join-more, length-join, join-select}
+use Rattle.counting.proofs.Pairs.{length-pairUp, pairUp-take}
 use Rattle.racks.specs.Racks.{Rack, base, slots, rackOf}
 use Rattle.racks.specs.Table.{awayTo, bound, owes, freeOn}
 use Rattle.racks.proofs.Geometry.{base-zero, base-mono, end-le, slots-is, rack-is, rack-in}
@@ -73,14 +73,29 @@ module _ (racks : List Rack) (places : List ℕ) (p : ℕ) where
   racks-below zero l = unfold table join select in rw (base-zero racks)
   racks-below (suc n) l = rw (join-more n (cardsFor racks places p), racks-below n (omega arith), rack-more n l)
 
+  -- of all racks: those of all slots
+  racks-all : join (table (length racks) (cardsFor racks places p)) ≡ select (slots racks) (awayTo racks places p)
+  racks-all = racks-below (length racks) (omega arith) ∙ rw (slots-is racks)
+
   -- the sources in ascending order: all cards away to p, by slot
   pub sources-all : join (each (cardsFor racks places p) (sources racks p)) ≡ select (slots racks) (awayTo racks places p)
   unfolding sources other
   sources-all =
       join-select (length racks) (other p) (cardsFor racks places p)
       (λ k l h. let e : k ≡ p = eqb-true k p (not-off-is h) in rw e own-none)
-      ∙ racks-below (length racks) (omega arith)
-      ∙ rw (slots-is racks)
+      ∙ racks-all
+
+  -- rack p owes itself nothing
+  pub own-owes : owes racks places p p ≡ 0
+  own-owes = cards-owed p ∙ rw own-none
+
+  -- what all racks owe p is how many cards are away to p
+  pub owes-all : sum (length racks) (λ i. owes racks places i p) ≡ count (slots racks) (awayTo racks places p)
+  owes-all =
+      sum-cong (length racks) (λ i. owes racks places i p) (λ i. length (cardsFor racks places p i)) (λ i _. cards-owed i)
+      ∙ sym (length-join (length racks) (cardsFor racks places p))
+      ∙ ap length racks-all
+      ∙ length-select (slots racks) (awayTo racks places p)
 
   -- the cards that arrive at p are, of those away to p, as many in the lowest slots as p has free slots
   pub arrivals-are : arrivals racks places p ≡ take (room racks places p) (select (slots racks) (awayTo racks places p))
@@ -103,6 +118,11 @@ module _ (racks : List Rack) (places : List ℕ) (p : ℕ) where
   pub length-open : length (openSlots racks places p) ≡ room racks places p
   unfolding openSlots room
   length-open = length-select (slots racks) (freeOn racks places p)
+
+  -- the pairs of target p are as many as it has free slots, or as cards are away to it
+  pub length-plan-for : length (planFor racks places p) ≡ min (room racks places p) (count (slots racks) (awayTo racks places p))
+  unfolding planFor
+  length-plan-for = omega (arith, length-pairUp (arrivals racks places p) (openSlots racks places p), length-arrivals, length-open)
 
   -- the pairs of target p: the cards away to it, by slot, with its free slots, from the lowest up, as far as both go
   pub plan-for-is : planFor racks places p ≡ pairUp (select (slots racks) (awayTo racks places p)) (openSlots racks places p)

@@ -2,22 +2,22 @@
 use mathlib.Core.Path.{refl, sym, _∙_}
 use mathlib.Core.Logic.{_≢_}
 use mathlib.Core.List.{List}
-use Prim.Native.Nat.{ℕ, suc, _<_}
+use Prim.Native.Nat.{ℕ, suc, _≤_, _<_}
 use native.Mathlib.Omega.{arith}
 use lib.ListN.{length}
 use Rattle.counting.specs.Lists.{Pair}
-use Rattle.counting.proofs.Count.{count-pos}
+use Rattle.counting.proofs.Count.{count-pos, count-le}
 use Rattle.counting.proofs.Every.{All, all-map, Pairwise, pairwise-map}
-use Rattle.counting.proofs.Select.{Hit, all-select, select-ascends, sum-mono, sum-suc}
+use Rattle.counting.proofs.Select.{Hit, all-select, select-ascends, sum-mono, sum-suc, apart-few}
 use Rattle.counting.proofs.Lists.{length-join, all-join, pairwise-join}
-use Rattle.counting.proofs.Pairs.{length-pairUp, all-pairUp, pairwise-pairUp}
+use Rattle.counting.proofs.Pairs.{all-pairUp, pairwise-pairUp}
 use Rattle.racks.specs.Racks.{Rack, slots}
-use Rattle.racks.specs.Table.{rackTo, awayTo, freeOn}
+use Rattle.racks.specs.Table.{rackTo, away, aways, awayTo, freeOn}
 use Rattle.racks.proofs.Geometry.{rack-lt}
 use Rattle.racks.proofs.Away.{to-away, to-rack, to-is, on-free, on-rack, on-is}
-use Rattle.phases.specs.Plan.{openSlots, room, arrivals, planFor, plan}
+use Rattle.phases.specs.Plan.{openSlots, room, planFor, plan}
 use Rattle.phases.proofs.Allowed.{Allowed, Apart}
-use Rattle.phases.proofs.Grants.{arrivals-all, arrivals-apart, length-arrivals, length-open}
+use Rattle.phases.proofs.Grants.{arrivals-all, arrivals-apart, length-plan-for}
 
 -- the pair takes a card that is away to rack p to a free slot of p
 abbrev pub Serves : List Rack → List ℕ → ℕ → Pair → Type 0
@@ -69,6 +69,18 @@ module _ (racks : List Rack) (places : List ℕ) where
   plan-apart = pairwise-join (length racks) (planFor racks places) (λ p _. plan-for-apart p)
       (λ p q l _. all-map (λ m s. all-map (λ n t. serves-apart p q m n (λ e. omega arith) s t) (plan-for-serves q)) (plan-for-serves p))
 
+  -- a plan has no more pairs than cards are away
+  pub plan-aways : length (plan racks places) ≤ aways racks places
+  unfolding aways
+  plan-aways =
+      apart-few (λ (m : Pair). m .0) (slots racks) (away racks places) (all-map (λ m o. (o .from-lt, o .is-away)) plan-allowed)
+      (pairwise-map (λ m n a. a .0) plan-apart)
+
+  -- so no more than there are slots
+  pub plan-few : length (plan racks places) ≤ slots racks
+  unfolding aways
+  plan-few = omega (arith, plan-aways, count-le (slots racks) (away racks places))
+
   -- where a card is away to a rack that has a free slot, the plan has a pair
   pub plan-meets : (p : ℕ) (m : Pair) → Serves racks places p m → 0 < length (plan racks places)
   unfolding planFor room plan
@@ -80,9 +92,7 @@ module _ (racks : List Rack) (places : List ℕ) where
         length-join (length racks) (planFor racks places),
         sum-mono (suc p) (length racks) sized few,
         sum-suc p sized,
-        length-pairUp (arrivals racks places p) (openSlots racks places p),
-        length-arrivals racks places p,
-        length-open racks places p,
+        length-plan-for racks places p,
         count-pos (slots racks) (awayTo racks places p) (m .0) (s .0 .0) (s .0 .1),
         count-pos (slots racks) (freeOn racks places p) (m .1) (s .1 .0) (s .1 .1),
       )

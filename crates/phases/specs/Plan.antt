@@ -10,7 +10,7 @@ use Rattle.counting.specs.Checks.{Check, first}
 use Rattle.racks.specs.Racks.{Rack, slots}
 use Rattle.racks.specs.Table.{bound, owes, freeOn}
 use Rattle.racks.specs.Numbers.{tableChecks, tooShort}
-use Rattle.racks.specs.Answers.{answer, written, Listed}
+use Rattle.racks.specs.Answers.{movesOf, answer, written, Listed}
 
 -- rack i is another than p
 unfoldable pub other : ℕ → ℕ → Bool
@@ -60,4 +60,4 @@ unfoldable pub planned : List Rack → List ℕ → List ℕ → Listed
 planned racks places lent =
     let n = first (planChecks racks places lent) in
     let pairs = plan racks places in
-    record { answer = answer n (record { phases = 0; moves = length pairs; copies = 0 }); lent = written n lent (flat pairs) }
+    record { answer = answer n (movesOf (length pairs)); lent = written n lent (flat pairs) }

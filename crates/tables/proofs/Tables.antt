@@ -7,16 +7,16 @@ use native.Mathlib.Omega.{arith}
 use native.Mathlib.Decide.{ℕ-discrete}
 use lib.Dec.{eqb}
 use lib.ListN.{length}
-use borrow.Author.Tests.{eq-eqb, ne-eqb, lt-ltb, le-ltb}
+use borrow.Author.Tests.{eq-eqb, ne-eqb, eqb-true, lt-ltb, le-ltb}
 use Rattle.counting.specs.Tests.{_or_, pick}
 use Rattle.counting.specs.Checks.{first, refusal}
-use Rattle.counting.proofs.Tests.{or-l, or-r, or-none, or-false}
-use Rattle.counting.proofs.Checks.{first-here, first-later}
+use Rattle.counting.proofs.Tests.{or-l, or-r, or-none, or-false, or-off-r, not-off-is, no-way}
+use Rattle.counting.proofs.Checks.{first-here, first-later, first-off}
 use Rattle.racks.specs.Racks.{Rack, ofCaps, slots}
 use Rattle.racks.specs.Numbers.{badCount, badBytes, badSize, badPlaces, badCards, entryChecks, tableChecks, cardChecks}
 use Rattle.tables.specs.Marks.{entriesNumber}
 use Rattle.racks.specs.Job.{rackChecks, racksOf, jobOf, goodJob, Sound}
-use Rattle.tables.specs.Tables.{tableNumber, cardsNumber}
+use Rattle.tables.specs.Tables.{Filled, tableNumber, cardsNumber, Checked, CardsChecked}
 use Rattle.racks.specs.declared.Job.{Job}
 use Rattle.racks.proofs.Jobs.{sound-refused, sound-slots, racks-again, job-good, job-none, caps-sound}
 use Rattle.racks.proofs.Legal.{racks-good, checks-racks, checks-4, checks-entries}
@@ -107,6 +107,41 @@ module _ (job : Job) (b : ℕ) (places cards : List ℕ) where
         (sym (or-false (badPlaces (racksOf job) places) (ap not (eq-eqb (length cards) (slots (racksOf job) * b) q))))
         ∙ past-3
 
+-- what is known where a table and its cards get no number
+pub record Accepted (job : Job) (b : ℕ) (places cards : List ℕ) : Type 0 where
+  pub sound : Sound job
+  pub table : first (tableChecks (racksOf job) places) ≡ 0
+  pub cards-long : length cards ≡ slots (racksOf job) * b
+  pub bytes : badBytes b ≡ false
+
+module _ (job : Job) (b : ℕ) (places cards : List ℕ) (z : cardsNumber job b places cards ≡ 0) where
+  refused-none : job .refused ≡ 0
+  unfolding refusedWith
+  refused-none = elim (ℕ-discrete (job .refused) 0) [
+    | yes e ↦ e
+    | no f ↦
+        let a = first-off (eqb (job .refused) 1) 1 _ (λ e. omega arith) (cards-refused job b places cards f ∙ z) in
+        let c = first-off (badBytes b) 2 _ (λ e. omega arith) (a .1) in
+        absurd (no-way (ap not (ne-eqb (job .refused) 0 f)) (first-off (not (eqb (job .refused) 0)) (job .refused) [] f (c .1) .0))
+  ]
+
+  pub accepted : (job .refused ≡ 0 → Sound job) → Accepted job b places cards
+  unfolding cardChecks badCards
+  accepted s =
+      let r = racksOf job in
+      let a = first-off (badCount (length r)) 1 _ (λ e. omega arith) (cards-checks job b places cards refused-none ∙ z) in
+      let c = first-off (badBytes b) 2 _ (λ e. omega arith) (a .1) in
+      let d = first-off (badSize r) 3 _ (λ e. omega arith) (c .1) in
+      let e = first-off (badPlaces r places or badCards r b cards) 4 _ (λ e. omega arith) (d .1) in
+      let long : length cards ≡ slots r * b = eqb-true (length cards) (slots r * b) (not-off-is (or-off-r (badPlaces r places) (e .0))) in
+      let is : length cards ≡ job .slots * b = long ∙ ap (λ (n : ℕ). n * b) (sym (sound-slots job (s refused-none))) in
+      record {
+        sound = s refused-none;
+        table = by-table job places refused-none ∙ cards-table job b places cards (s refused-none) (c .0) is ∙ z;
+        cards-long = long;
+        bytes = c .0;
+      }
+
 -- B, by the code's tests
 pub bytes-none : (b : ℕ) → b ≡ 0 → badBytes b ≡ true
 unfolding badBytes
@@ -156,3 +191,34 @@ module _ (caps : List ℕ) (job : Job) (is : job ≡ jobOf (ofCaps caps)) where
     | yes z ↦ sym (cards-checks job b places cards z) ∙ ap (λ (r : List Rack). first (cardChecks r b places cards)) (of-racks z)
     | no f ↦ sym (cards-refused job b places cards f) ∙ ap (refusedWith b) (refused-is f) ∙ checks-refused (ofCaps caps) b places cards (λ z. f (refused-is f ∙ z))
   ]
+
+-- what a call knows of capacities and a table that get no number
+pub record Open (caps : List ℕ) (job : Job) (places table : List ℕ) : Type 0 where
+  pub sound : Sound job
+  pub filled : Filled (racksOf job) table
+  pub legal : first (tableChecks (racksOf job) places) ≡ 0
+  pub racks : racksOf job ≡ ofCaps caps
+  pub legal-caps : first (tableChecks (ofCaps caps) places) ≡ 0
+
+module _ (caps : List ℕ) (job : Job) (is : job ≡ jobOf (ofCaps caps)) (places table : List ℕ) where
+  open-racks : job .refused ≡ 0 → Filled (racksOf job) table → first (tableChecks (racksOf job) places) ≡ 0 → Open caps job places table
+  open-racks r f z =
+      let e = of-racks caps job is r in
+      record { sound = of-sound caps job is r; filled = f; legal = z; racks = e; legal-caps = subst (λ (k : List Rack). first (tableChecks k places) ≡ 0) e z }
+
+  -- a table that gets no number
+  pub open-table : (n : ℕ) → Checked job places n table → n ≡ 0 → Open caps job places table
+  open-table n c z =
+      let t : tableNumber job places ≡ 0 = sym (c .number-is) ∙ z in
+      let r = number-racks job places t in
+      open-racks r (c .filled z) (by-table job places r ∙ t)
+
+  -- a table with cards that gets none
+  pub open-cards : (b : ℕ) (cards : List ℕ) (n : ℕ) → CardsChecked job b places cards n table → n ≡ 0 → Open caps job places table
+  open-cards b cards n c z =
+      let a = accepted job b places cards (sym (c .number-is) ∙ z) (of-sound caps job is) in
+      open-racks (sound-refused job (a .sound)) (c .filled z) (a .table)
+
+  -- and its cards are S·B long
+  pub open-long : (b : ℕ) (cards : List ℕ) (n : ℕ) → CardsChecked job b places cards n table → n ≡ 0 → length cards ≡ slots (racksOf job) * b
+  open-long b cards n c z = accepted job b places cards (sym (c .number-is) ∙ z) (of-sound caps job is) .cards-long

@@ -1,0 +1,6 @@
+pub mod Marks
+pub mod NextPhase
+pub mod Lowering
+pub mod PhaseRuns
+pub mod Turns
+pub mod Budgeted

@@ -1,0 +1,43 @@
+use native.Mathlib.Omega.{arith}
+use borrow.Author.Needs.{needs}
+use Rattle.budgets.proofs.parts.move_cards.Statement.{statement}
+use Rattle.budgets.proofs.parts.move_cards.Tie as tie
+
+queue-up-requires : tie.Need-queue-up-requires
+queue-up-requires c κs = search needs
+
+slice-aggregate-run-moves : tie.Need-slice-aggregate-run-moves
+slice-aggregate-run-moves c = search needs
+
+run-moves-requires : tie.Need-run-moves-requires
+run-moves-requires c κs =
+    let s = c .before .before .before .before .before .before .before .before .before .before .before .before .before .before .before .before .before in
+    record {
+      sound = s .pre .0;
+      spared = s .pre .1;
+      filled = s .pre .2;
+      legal = s .pre .3;
+      ready = c .before .before .before .before .before .before .before .before .queue-up .ensures;
+      cards-long = s .pre .4;
+      room = omega arith;
+    }
+
+same-length : tie.Need-same-length
+same-length c = search needs
+
+same-length-2 : tie.Need-same-length-2
+same-length-2 c = search needs
+
+returns : tie.Need-returns
+returns c = search needs
+
+pub move-cards-spec : {M : Type 1} → statement M
+move-cards-spec =
+    tie.close
+    (tie.spec
+    queue-up-requires
+    slice-aggregate-run-moves
+    run-moves-requires
+    same-length
+    same-length-2
+    returns)

@@ -1,0 +1,31 @@
+// Budgeted moves.
+ghost use mathlib.Core.Path.{_≡_};
+ghost use Rattle.racks.specs.Racks.{ofCaps};
+ghost use Rattle.moves.specs.Phases.{budgeted};
+ghost use Rattle.moves.specs.Parts.{held, outcomeOf};
+use racks::Answer;
+use racks::Job;
+use racks::Tally;
+
+pub mod parts;
+
+// Budgeted moves: at most k, the present phase's pairs in plan order, a new plan when they are used up.
+pub fn budgeted_moves(
+    caps: &[u16],
+    b: usize,
+    places: &mut [u16],
+    cards: &mut [u8],
+    k: usize,
+) -> Answer
+    ensures { λ r. ⌜ outcomeOf r (now (places .exit)) (now (cards .exit)) ≡ budgeted (ofCaps (now (caps .entry))) b (held (now (places .entry)) (now (cards .entry))) k ⌝ }
+{
+    let job = Job::of(caps);
+    let mut racks = [0u8; 4096];
+    let number = tables::parts::cards_number(job, b, places, cards, &mut racks);
+    if number != 0 {
+        return Answer::of(number);
+    }
+    let moves = parts::move_cards(job, b, k, places, cards, &racks);
+    let tally = Tally::of_moves(moves);
+    Answer::done(tally)
+}

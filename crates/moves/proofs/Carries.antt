@@ -1,0 +1,29 @@
+-- Laws of carrying: one card moved, and the moves of a list, one after another. Assumes nothing.
+use mathlib.Core.Path.{_≡_}
+use mathlib.Core.List.{List, [], _∷_}
+use Prim.Native.Nat.{ℕ, _+_, _≤_, _<_}
+use lib.ListN.{length, getD, set}
+use Rattle.racks.specs.Limits.{FREE}
+use Rattle.racks.specs.Table.{dest}
+use Rattle.moves.specs.Blocks.{block, putBlock, blank}
+use Rattle.moves.specs.Moves.{movedPlaces, movedCards, carriedPlaces, carriedCards, Held, carried}
+use Rattle.moves.specs.Parts.{pairsIn, held}
+use Rattle.moves.proofs.Flat.{pairs-more, pairs-none}
+
+-- one card moved: its entry, then its bytes copied, then its old slot blanked
+pub moved-held : (b f t : ℕ) (places cards copied blanked : List ℕ) → copied ≡ putBlock b t (block b f cards) cards → blanked ≡ putBlock b f (blank b) copied
+    → held (set (set places t (dest places f)) f FREE) blanked ≡ carried b ((f, t) ∷ []) (held places cards)
+unfolding carriedPlaces carriedCards movedPlaces movedCards
+moved-held b f t places cards copied blanked p q = rw (q, p)
+
+module _ (list : List ℕ) (i high : ℕ) (fits : high ≤ length list) where
+  -- the first of the moves left is made: those after it give the same
+  pub carry-more : (b : ℕ) (h h′ end : Held) → i + 2 ≤ high → h′ ≡ carried b ((getD list i 0, getD list (i + 1) 0) ∷ []) h
+      → carried b (pairsIn list i high) h ≡ end → carried b (pairsIn list (i + 2) high) h′ ≡ end
+  unfolding carriedPlaces carriedCards
+  carry-more b h h′ end l e rest = rw e (rw (pairs-more list i high fits l) at rest)
+
+  -- none is left
+  pub carry-done : (b : ℕ) (h end : Held) → high < i + 2 → carried b (pairsIn list i high) h ≡ end → h ≡ end
+  unfolding carriedPlaces carriedCards
+  carry-done b h end l rest = rw (pairs-none list i high fits l) at rest

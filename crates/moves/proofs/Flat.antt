@@ -1,0 +1,72 @@
+-- Laws of the moves that stand in a list of numbers. Assumes nothing.
+use mathlib.Core.Path.{_≡_, refl, ap, _∙_}
+use mathlib.Core.List.{List, [], _∷_}
+use Prim.Native.Nat.{ℕ, zero, suc, _+_, _*_, _≤_, _<_}
+use native.Mathlib.Nat.{zero-add, suc-add}
+use native.Mathlib.Numerals.{add-one, add-two}
+use native.Mathlib.Omega.{arith}
+use lib.ListN.{length, take, drop, getD}
+use lib.Seq.{sets, slice, slice-cons, length-slice, take-nil, take-all}
+use Rattle.counting.specs.Lists.{Pair, flat}
+use Rattle.counting.proofs.Every.All.{more}
+use Rattle.moves.specs.Parts.{unflat, pairsIn, Slots, AllSlots}
+use Rattle.counting.proofs.Stores.{length-flat, run-same}
+
+module _ (list : List ℕ) (i high : ℕ) (fits : high ≤ length list) where
+  -- the first pair, and those after it
+  pub pairs-more : i + 2 ≤ high → pairsIn list i high ≡ (getD list i 0, getD list (i + 1) 0) ∷ pairsIn list (i + 2) high
+  unfolding pairsIn unflat
+  pairs-more h = rw (add-two, add-one, slice-cons i high list 0 (omega arith) fits, slice-cons (suc i) high list 0 (omega arith) fits)
+
+  -- no pair is left
+  pub pairs-none : high < i + 2 → pairsIn list i high ≡ []
+  unfolding pairsIn unflat
+  pairs-none h = few (slice i high list) (omega (arith, length-slice i high list fits))
+    where
+      few : (l : List ℕ) → length l < 2 → unflat l ≡ []
+      few [] k = refl
+      few (x ∷ []) k = refl
+      few (x ∷ (y ∷ l)) k = absurd (omega arith)
+
+  -- where all ends are slots, so are the first pair's
+  pub slots-first : (n : ℕ) → i + 2 ≤ high → AllSlots n (pairsIn list i high) → Slots n (getD list i 0, getD list (i + 1) 0)
+  slots-first n h all = head (rw (pairs-more h) at all)
+    where
+      head : {m : Pair} {ms : List Pair} → AllSlots n (m ∷ ms) → Slots n m
+      head (more p r) = p
+
+  -- and those of the pairs after it
+  pub slots-rest : (n : ℕ) → i + 2 ≤ high → AllSlots n (pairsIn list i high) → AllSlots n (pairsIn list (i + 2) high)
+  slots-rest n h all = tail (rw (pairs-more h) at all)
+    where
+      tail : {m : Pair} {ms : List Pair} → AllSlots n (m ∷ ms) → AllSlots n ms
+      tail (more p r) = r
+
+-- the first pairs of a list of moves, from the first numbers of it
+unflat-take : (k : ℕ) (ms : List Pair) → unflat (take (k + k) (flat ms)) ≡ take k ms
+unfolding unflat flat
+unflat-take zero ms = refl
+unflat-take (suc k) [] = rw (take-nil {A = ℕ} (suc k + suc k))
+unflat-take (suc k) (m ∷ ms) =
+    let e : suc k + suc k ≡ suc (suc (k + k)) = omega arith in
+    rw e (ap (λ (r : List Pair). m ∷ r) (unflat-take k ms))
+
+-- a part that begins at m, from what lies behind m
+slice-drop : (m n : ℕ) (l : List ℕ) → slice m (m + n) l ≡ take n (drop m l)
+slice-drop zero n l = rw zero-add
+slice-drop (suc m) n [] = rw (suc-add, take-nil {A = ℕ} n)
+slice-drop (suc m) n (x ∷ l) = rw suc-add (slice-drop m n l)
+
+-- where a list of moves was stored, its first k pairs are read
+pub pairs-of : (list lent : List ℕ) (low high k : ℕ) (ms : List Pair) → list ≡ sets lent low (flat ms) → low + length (flat ms) ≤ length lent
+    → high ≡ low + 2 * k → k ≤ length ms → pairsIn list low high ≡ take k ms
+unfolding pairsIn
+pairs-of list lent low high k ms e fits at h =
+    let two : high ≡ low + (k + k) = omega arith in
+    rw (e, two, slice-drop low (k + k) (sets lent low (flat ms)), run-same (flat ms) lent low (k + k) fits (omega (arith, length-flat ms))) (unflat-take k ms)
+
+-- and all of them
+pub pairs-all : (list lent : List ℕ) (low high : ℕ) (ms : List Pair) → list ≡ sets lent low (flat ms) → high ≡ low + length (flat ms) → high ≤ length lent
+    → pairsIn list low high ≡ ms
+pairs-all list lent low high ms e at fits =
+    pairs-of list lent low high (length ms) ms e (omega arith) (omega (arith, length-flat ms)) (omega arith) ∙ take-all (length ms) ms (omega arith)

@@ -1,0 +1,46 @@
+-- What the inner functions cite: the table and the cards held together, moves in a list of numbers. Assumes nothing: these are definitions.
+use mathlib.Core.List.{List, [], _∷_}
+use Prim.Native.Nat.{ℕ, _<_}
+use lib.Seq.{slice}
+use Rattle.counting.specs.Tests.{pick}
+use Rattle.counting.specs.Lists.{Pair}
+use Rattle.counting.specs.Checks.{first, done}
+use Rattle.counting.proofs.Every.{All}
+use Rattle.racks.specs.Job.{racksOf}
+use Rattle.racks.specs.declared.Job.{Job}
+use Rattle.racks.specs.declared.Answer.{Answer}
+use Rattle.tables.specs.Tables.{cardsNumber}
+use Rattle.moves.specs.Moves.{Held, Outcome, endChecks}
+
+-- the table and the cards
+abbrev pub held : List ℕ → List ℕ → Held
+held places cards = record { places = places; cards = cards }
+
+-- what a call that is lent the cards gives, and what it leaves
+abbrev pub outcomeOf : Answer → List ℕ → List ℕ → Outcome
+outcomeOf answer places cards = record { answer = answer; held = held places cards }
+
+-- the number of a move, by a job: that of the table and the cards, else 7 to 11
+unfoldable pub moveNumber : Job → ℕ → Held → Pair → ℕ
+moveNumber job b h m =
+    let n = cardsNumber job b (h .places) (h .cards) in
+    pick (done n) (first (endChecks (racksOf job) (h .places) m)) n
+
+-- the pairs of a list of numbers, two for each: undoes `flat`; a last number with no partner is left out
+unfoldable pub unflat : List ℕ → List Pair
+unflat [] = []
+unflat (f ∷ []) = []
+unflat (f ∷ (t ∷ rest)) = (f, t) ∷ unflat rest
+
+-- the pairs that stand from index `low` up to `high`
+unfoldable pub pairsIn : List ℕ → ℕ → ℕ → List Pair
+pairsIn list low high = unflat (slice low high list)
+
+-- both ends of a move are slots, of which there are n
+pub record Slots (n : ℕ) (m : Pair) : Type 0 where
+  pub from-lt : m .0 < n
+  pub to-lt : m .1 < n
+
+-- both ends of each move are slots
+abbrev pub AllSlots : ℕ → List Pair → Type 0
+AllSlots n ms = All (Slots n) ms

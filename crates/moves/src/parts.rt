@@ -1,0 +1,126 @@
+// What the calls that move cards share: a card copied, a slot blanked, a card moved, a list of moves carried.
+ghost use mathlib.Core.Path.{_≡_};
+ghost use mathlib.Core.List.{[], _∷_};
+ghost use Prim.Native.Nat.{_+_, _*_, _≤_, _<_};
+ghost use lib.ListN.{length};
+ghost use Rattle.counting.specs.Checks.{first};
+ghost use Rattle.racks.specs.Numbers.{tableChecks};
+ghost use Rattle.racks.specs.Answers.{movesOf, answer};
+ghost use Rattle.racks.specs.Job.{racksOf, Sound};
+ghost use Rattle.tables.specs.Tables.{Filled};
+ghost use Rattle.moves.specs.Blocks.{block, putBlock, blank};
+ghost use Rattle.moves.specs.Moves.{carried, endChecks};
+ghost use Rattle.moves.specs.Parts.{held, pairsIn, AllSlots, moveNumber};
+use racks::Answer;
+use racks::Job;
+use racks::Tally;
+
+// 7 to 11 for a move on a legal table, or 0.
+fn ends_number(job: Job, places: &[u16], racks: &[u8; 4096], from: usize, to: usize) -> u8
+    requires { ⌜ Sound job × Filled (racksOf job) (now racks) × (first (tableChecks (racksOf job) (now places)) ≡ 0) ⌝ }
+    ensures { λ r. ⌜ r ≡ first (endChecks (racksOf job) (now (places .entry)) (from, to)) ⌝ }
+{
+    if job.slots <= from {
+        return 7;
+    }
+    if job.slots <= to {
+        return 7;
+    }
+    let x = places[from];
+    if x == Job::FREE {
+        return 8;
+    }
+    let there = racks[x as usize];
+    if racks[from] == there {
+        return 9;
+    }
+    if racks[to] != there {
+        return 10;
+    }
+    if places[to] != Job::FREE {
+        return 11;
+    }
+    0
+}
+
+// The number of a move: 1 to 6 for the table and its cards, then 7 to 11.
+pub fn move_number(
+    job: Job,
+    b: usize,
+    places: &[u16],
+    cards: &[u8],
+    racks: &mut [u8; 4096],
+    from: usize,
+    to: usize,
+) -> u8
+    requires { ⌜ (job .refused ≡ 0 → Sound job) ⌝ }
+    ensures { λ r. ⌜ r ≡ moveNumber job b (held (now (places .entry)) (now (cards .entry))) (from, to) ⌝ }
+{
+    let number = tables::parts::cards_number(job, b, places, cards, racks);
+    if number != 0 {
+        return number;
+    }
+    ends_number(job, places, racks, from, to)
+}
+
+// Done, with one move made.
+pub fn one_made() -> Answer
+    ensures { λ r. ⌜ r ≡ answer 0 (movesOf 1) ⌝ }
+{
+    let none = Tally::none();
+    let tally = none.add_move();
+    Answer::done(tally)
+}
+
+// The card in slot `from` into slot `to` too: its bytes take the place of those that were there.
+pub fn copy_card(cards: &mut [u8], b: usize, from: usize, to: usize)
+    requires { ⌜ (from * b + b ≤ length (now cards)) × (to * b + b ≤ length (now cards)) ⌝ }
+    ensures { λ _. ⌜ now (cards .exit) ≡ putBlock b to (block b from (now (cards .entry))) (now (cards .entry)) ⌝ }
+{
+    let source = from * b;
+    let target = to * b;
+    let mut i = 0;
+    while i < b {
+        cards[target + i] = cards[source + i];
+        i = i + 1;
+    }
+}
+
+// Slot g all zero: where no card stands, no byte of one is left.
+pub fn blank_card(cards: &mut [u8], b: usize, g: usize)
+    requires { ⌜ g * b + b ≤ length (now cards) ⌝ }
+    ensures { λ _. ⌜ now (cards .exit) ≡ putBlock b g (blank b) (now (cards .entry)) ⌝ }
+{
+    let start = g * b;
+    let mut i = 0;
+    while i < b {
+        cards[start + i] = 0;
+        i = i + 1;
+    }
+}
+
+// The card in slot `from` to slot `to`, entry and bytes; its old slot is free and blank from now on.
+pub fn move_card(places: &mut [u16], cards: &mut [u8], b: usize, from: usize, to: usize)
+    requires sized { ⌜ length (now places) * b ≡ length (now cards) ⌝ }
+    requires slots { ⌜ (from < length (now places)) × (to < length (now places)) ⌝ }
+    ensures { λ _. ⌜ held (now (places .exit)) (now (cards .exit)) ≡ carried b ((from, to) ∷ []) (held (now (places .entry)) (now (cards .entry))) ⌝ }
+{
+    places[to] = places[from];
+    places[from] = Job::FREE;
+    copy_card(cards, b, from, to);
+    blank_card(cards, b, from);
+}
+
+// The moves that stand in `pairs` from index `low` up to `high`, from and to of each, in their order.
+pub fn carry(pairs: &[u16], low: usize, high: usize, places: &mut [u16], cards: &mut [u8], b: usize)
+    requires sized { ⌜ length (now places) * b ≡ length (now cards) ⌝ }
+    requires within { ⌜ (low ≤ high) × (high ≤ length (now pairs)) ⌝ }
+    requires slots { ⌜ AllSlots (length (now places)) (pairsIn (now pairs) low high) ⌝ }
+    ensures { λ _. ⌜ held (now (places .exit)) (now (cards .exit)) ≡ carried b (pairsIn (now (pairs .entry)) low high) (held (now (places .entry)) (now (cards .entry))) ⌝ }
+{
+    let mut i = low;
+    while i + 2 <= high {
+        move_card(places, cards, b, pairs[i] as usize, pairs[i + 1] as usize);
+        i = i + 2;
+    }
+}

@@ -1,0 +1,204 @@
+-- Laws of counting what racks owe, slot by slot. Assumes nothing.
+use mathlib.Core.Path.{_≡_, ap, sym, _∙_}
+use mathlib.Core.Bool.{Bool, true, false, not}
+use mathlib.Core.Logic.{_≢_}
+use mathlib.Core.List.{List}
+use Prim.Native.Nat.{ℕ, _+_, _≤_, _<_}
+use native.Mathlib.Omega.{arith}
+use native.Mathlib.Decide.{ℕ-discrete, decLt}
+use lib.ListN.{length, getD, set, length-set, replicate, getD-replicate, length-replicate, List·getD-eq-default}
+use lib.Seq.{getD-set-same, getD-set-other}
+use borrow.Author.Tests.{eq-eqb, ne-eqb}
+use Rattle.counting.specs.Tests.{pick}
+use Rattle.counting.specs.Count.{count}
+use Rattle.counting.proofs.Tests.{by-test, off, both, no-way, and-off-l, and-off-r, not-off}
+use Rattle.counting.proofs.Count.{count-none, count-on, count-off}
+use Rattle.racks.specs.Limits.{FREE}
+use Rattle.racks.specs.Racks.{Rack, slots, rackOf}
+use Rattle.racks.specs.Table.{dest, free, rackTo, onRack, away, bound, owes, freeOn}
+use Rattle.racks.proofs.Geometry.{rack-lt}
+use Rattle.racks.proofs.LegalTable.{Legal, legal-dest}
+use Rattle.racks.proofs.Away.{away-held, to-away, to-rack, to-is, on-free, on-rack, on-is, bound-on, bound-off}
+use Rattle.tables.specs.Tables.{Filled}
+use Rattle.phases.specs.Plan.{room}
+use Rattle.plans.specs.Owed.{cell, Tallied, oneMore, awayBy, owesWith, roomsWith, Counted, Countable}
+
+-- counts before and after a slot, which adds one at k where its test passes
+module _ (test : Bool) (k : ℕ) (l l′ : List ℕ) (e : l′ ≡ pick test (oneMore l k) l) (h : test ≡ true → k < length l) where
+  -- where the test passes, the count at k is one more
+  one-same : test ≡ true → getD l′ k 0 ≡ getD l k 0 + 1
+  unfolding oneMore
+  one-same t = rw (e, t) (getD-set-same l k (getD l k 0 + 1) 0 (h t))
+
+  -- any other is the same
+  one-other : (j : ℕ) → (test ≡ true → j ≢ k) → getD l′ j 0 ≡ getD l j 0
+  unfolding oneMore
+  one-other j d = by-test test (λ t. rw (e, t) (getD-set-other l k j (getD l k 0 + 1) 0 (d t))) (λ t. rw (e, t))
+
+  -- a count of the slots below g that pass f goes on to count slot g
+  one-count : (g j : ℕ) (f : ℕ → Bool) → getD l j 0 ≡ count g f → (test ≡ true → j ≡ k → f g ≡ true) → ((test ≡ true → j ≢ k) → f g ≡ false) → getD l′ j 0 ≡ count (g + 1) f
+  one-count g j f c y n = by-test test
+      (λ t. elim (ℕ-discrete j k) [
+        | yes q ↦ let z : getD l′ j 0 ≡ getD l j 0 + 1 = rw q (one-same t) in omega (arith, count-on g f (y t q))
+        | no d ↦ one-other j (λ _. d) ∙ c ∙ sym (count-off g f (n (λ _. d)))
+      ])
+      (λ t. let d : test ≡ true → j ≢ k = λ u. absurd (no-way u t) in one-other j d ∙ c ∙ sym (count-off g f (n d)))
+
+  -- none is above the number of slots
+  one-few : (g : ℕ) → ((j : ℕ) → getD l j 0 ≤ g) → (j : ℕ) → getD l′ j 0 ≤ g + 1
+  one-few g c j = by-test test
+      (λ t. elim (ℕ-discrete j k) [ yes q ↦ rw q (omega (arith, one-same t, c k)) | no d ↦ omega (arith, one-other j (λ _. d), c j) ])
+      (λ t. omega (arith, one-other j (λ u. absurd (no-way u t)), c j))
+
+  -- they are as many
+  one-long : length l′ ≡ length l
+  unfolding oneMore
+  one-long = by-test test (λ t. rw (e, t) (length-set l k (getD l k 0 + 1))) (λ t. rw (e, t))
+
+-- a slot whose entry is not 65,535 is not free
+pub held : (places : List ℕ) (g : ℕ) → dest places g ≢ FREE → free places g ≡ false
+unfolding free
+held places g d = ne-eqb (dest places g) FREE d
+
+-- one slot, by the tests that the code makes
+module _ (places table : List ℕ) (g : ℕ) (owed rooms : List ℕ) where
+  -- a free slot
+  pub counted-free : dest places g ≡ FREE → Counted places table g owed rooms owed (set rooms (getD table g 0) (getD rooms (getD table g 0) 0 + 1))
+  unfolding free awayBy owesWith roomsWith oneMore
+  counted-free e =
+      let f : free places g ≡ true = eq-eqb (dest places g) FREE e in
+      record { owed-are = rw (and-off-l _ (ap not f)); rooms-are = rw f }
+
+  module _ (d : dest places g ≢ FREE) where
+    -- a card on its rack
+    pub counted-here : getD table g 0 ≡ getD table (dest places g) 0 → Counted places table g owed rooms owed rooms
+    unfolding awayBy owesWith roomsWith
+    counted-here e = record { owed-are = rw (and-off-r (not (free places g)) (ap not (eq-eqb _ _ e))); rooms-are = rw (held places g d) }
+
+    -- a card that is away
+    pub counted-away : getD table g 0 ≢ getD table (dest places g) 0
+        → Counted places table g owed rooms
+        (set owed (cell (getD table g 0) (getD table (dest places g) 0)) (getD owed (cell (getD table g 0) (getD table (dest places g) 0)) 0 + 1)) rooms
+    unfolding awayBy owesWith roomsWith oneMore
+    counted-away n = record { owed-are = rw (both (not-off (held places g d)) (not-off (ne-eqb _ _ n))); rooms-are = rw (held places g d) }
+
+-- the first g slots are counted
+pub record CountedTo (racks : List Rack) (places : List ℕ) (g : ℕ) (owed rooms : List ℕ) : Type 0 where
+  pub owed-are : (i p : ℕ) → i < length racks → p < length racks → getD owed (cell i p) 0 ≡ count g (bound racks places i p)
+  pub owed-few : (k : ℕ) → getD owed k 0 ≤ g
+  pub owed-long : length owed ≡ 4096
+  pub rooms-are : (p : ℕ) → p < length racks → getD rooms p 0 ≡ count g (freeOn racks places p)
+  pub rooms-few : (k : ℕ) → getD rooms k 0 ≤ g
+  pub rooms-long : length rooms ≡ 64
+
+-- a list of zeros has 0 everywhere, and behind it
+zeros : (n k : ℕ) → getD {A = ℕ} (replicate n 0) k 0 ≡ 0
+zeros n k = elim (decLt k n) [
+  | yes l ↦ getD-replicate n k 0 0 l
+  | no l ↦ List·getD-eq-default (replicate n 0) 0 (omega (arith, length-replicate {A = ℕ} n 0))
+]
+
+module _ (racks : List Rack) (places : List ℕ) where
+  -- no slot is counted
+  pub counted-none : CountedTo racks places 0 (replicate 4096 0) (replicate 64 0)
+  counted-none =
+      record {
+        owed-are = λ i p _ _. zeros 4096 (cell i p) ∙ sym (count-none (bound racks places i p));
+        owed-few = λ k. omega (arith, zeros 4096 k);
+        owed-long = length-replicate {A = ℕ} 4096 0;
+        rooms-are = λ p _. zeros 64 p ∙ sym (count-none (freeOn racks places p));
+        rooms-few = λ k. omega (arith, zeros 64 k);
+        rooms-long = length-replicate {A = ℕ} 64 0;
+      }
+
+  -- all slots are counted
+  pub counted-all : (g : ℕ) (owed rooms : List ℕ) → g ≡ slots racks → CountedTo racks places g owed rooms → Tallied racks places owed rooms
+  unfolding owes room
+  counted-all g owed rooms e c =
+      record {
+        owed-are = record { counts = rw e at (c .owed-are); long = c .owed-long };
+        rooms-are = record { counts = rw e at (c .rooms-are); long = c .rooms-long };
+      }
+
+  -- slot g of a legal table is next
+  module _ (v : Legal racks places) (few : length racks ≤ 64) (small : slots racks ≤ 4096) (table : List ℕ) (filled : Filled racks table)
+      (g : ℕ) (l : g < slots racks) (owed rooms : List ℕ) (c : CountedTo racks places g owed rooms) where
+    -- its rack, looked up
+    here : getD table g 0 ≡ rackOf racks g
+    here = filled g l
+
+    -- the rack where its card must end, looked up
+    there : free places g ≡ false → getD table (dest places g) 0 ≡ rackTo racks places g
+    unfolding rackTo
+    there f = filled (dest places g) (legal-dest racks places v g l f)
+
+    -- both are racks
+    here-lt : getD table g 0 < length racks
+    here-lt = omega (arith, here, rack-lt racks g l)
+
+    there-lt : free places g ≡ false → getD table (dest places g) 0 < length racks
+    there-lt f =
+        let m = legal-dest racks places v g l f in
+        omega (arith, filled (dest places g) m, rack-lt racks (dest places g) m)
+
+    -- it can be counted
+    pub countable : Countable places table g owed rooms
+    countable =
+        record {
+          slot = omega (arith, v .long);
+          small = omega arith;
+          rack = omega (arith, here-lt);
+          dest-small = λ f. omega (arith, legal-dest racks places v g l f);
+          dest-rack = λ f. omega (arith, there-lt f);
+          owed-long = c .owed-long;
+          owed-fit = λ k. omega (arith, c .owed-few k);
+          rooms-long = c .rooms-long;
+          rooms-fit = λ k. omega (arith, c .rooms-few k);
+        }
+
+    -- its card is away by the table where it is away
+    away-by : awayBy places table g ≡ away racks places g
+    unfolding awayBy away onRack
+    away-by = by-test (free places g) (λ f. and-off-l _ (ap not f) ∙ sym (and-off-l _ (ap not f))) (λ f. rw (here, there f))
+
+    -- then it is in no free slot
+    by-held : awayBy places table g ≡ true → free places g ≡ false
+    by-held a = away-held racks places g (sym away-by ∙ a)
+
+    -- it is bound from its rack to the rack where it must end
+    bound-here : (i p : ℕ) → i < length racks → p < length racks → awayBy places table g ≡ true → cell i p ≡ cell (getD table g 0) (getD table (dest places g) 0) → bound racks places i p g ≡ true
+    bound-here i p h h′ a q =
+        let f : free places g ≡ false = by-held a in
+        let x : getD table g 0 ≡ i = omega (arith, there-lt f) in
+        let y : getD table (dest places g) 0 ≡ p = omega (arith, there-lt f) in
+        bound-on racks places p g i (sym here ∙ x) ∙ to-is racks places p g (sym away-by ∙ a) (sym (there f) ∙ y)
+
+    -- and no other way
+    bound-none : (i p : ℕ) → (awayBy places table g ≡ true → cell i p ≢ cell (getD table g 0) (getD table (dest places g) 0)) → bound racks places i p g ≡ false
+    bound-none i p n = elim (ℕ-discrete (rackOf racks g) i) [
+      | yes e ↦
+          bound-on racks places p g i e
+          ∙ off (λ b.
+          let a : awayBy places table g ≡ true = away-by ∙ to-away racks places p g b in
+          n a (rw (here, there (by-held a), e, to-rack racks places p g b)))
+      | no d ↦ bound-off racks places p g i d
+    ]
+
+    -- one slot more is counted
+    pub counted-more : (owed′ rooms′ : List ℕ) → Counted places table g owed rooms owed′ rooms′ → CountedTo racks places (g + 1) owed′ rooms′
+    unfolding owesWith roomsWith
+    counted-more owed′ rooms′ k =
+        let at : ℕ = cell (getD table g 0) (getD table (dest places g) 0) in
+        let m : awayBy places table g ≡ true → at < length owed = λ a. omega (arith, here-lt, there-lt (by-held a), c .owed-long) in
+        let r : free places g ≡ true → getD table g 0 < length rooms = λ _. omega (arith, here-lt, c .rooms-long) in
+        record {
+          owed-are = λ i p h h′. one-count _ at owed owed′ (k .owed-are) m g (cell i p) (bound racks places i p) (c .owed-are i p h h′) (bound-here i p h h′) (bound-none i p);
+          owed-few = one-few _ at owed owed′ (k .owed-are) m g (c .owed-few);
+          owed-long = one-long _ at owed owed′ (k .owed-are) m ∙ c .owed-long;
+          rooms-are = λ p h.
+              one-count _ (getD table g 0) rooms rooms′ (k .rooms-are) r g p (freeOn racks places p) (c .rooms-are p h)
+              (λ f q. on-is racks places p g f (sym (q ∙ here)))
+              (λ n. off (λ o. n (on-free racks places p g o) (sym (here ∙ on-rack racks places p g o))));
+          rooms-few = one-few _ (getD table g 0) rooms rooms′ (k .rooms-are) r g (c .rooms-few);
+          rooms-long = one-long _ (getD table g 0) rooms rooms′ (k .rooms-are) r ∙ c .rooms-long;
+        }

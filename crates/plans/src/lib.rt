@@ -1,0 +1,29 @@
+// Plans: the phase plan.
+ghost use mathlib.Core.Path.{_≡_};
+ghost use Rattle.racks.specs.Racks.{ofCaps};
+ghost use Rattle.racks.specs.Answers.{listedOf};
+ghost use Rattle.phases.specs.Plan.{planned};
+use racks::Answer;
+use racks::Job;
+use racks::Tally;
+
+pub mod parts;
+
+// Phase plan: the pairs of the present phase from the front of the lent list, two numbers each.
+pub fn phase_plan(caps: &[u16], places: &[u16], lent: &mut [u16]) -> Answer
+    ensures { λ r. ⌜ listedOf r (now (lent .exit)) ≡ planned (ofCaps (now (caps .entry))) (now (places .entry)) (now (lent .entry)) ⌝ }
+{
+    let job = Job::of(caps);
+    let mut racks = [0u8; 4096];
+    let number = tables::parts::table_number(job, places, &mut racks);
+    if number != 0 {
+        return Answer::of(number);
+    }
+    let pairs = parts::count_plan(job, places, &racks);
+    if lent.len() < 2 * pairs {
+        return Answer::of(13);
+    }
+    let written = parts::write_plan(job, places, &racks, lent);
+    let tally = Tally::of_moves(written);
+    Answer::done(tally)
+}

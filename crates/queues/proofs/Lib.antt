@@ -1,0 +1,11 @@
+pub mod Stretch
+pub mod Fits
+pub mod OpenSlots
+pub mod Ready
+pub mod FirstSlots
+pub mod QueueSlot
+pub mod Queueing
+pub mod AllQueued
+pub mod Opens
+pub mod Pairing
+pub mod Planning

@@ -1,0 +1,171 @@
+use native.Mathlib.Omega.{arith}
+use Prim.Native.Nat.{_+_, _-_, _^_, _≤_, _<_}
+use lib.ListN.{length, getD}
+use Rattle.queues.specs.Queues.{rowsOf}
+use Rattle.queues.proofs.Planning.{Planned, Inside, planned-none, planned-long, planned-all, planned-inside, next-pairs, next-few, next-made, planned-more}
+use Rattle.queues.proofs.parts.planning.plan_phase.Statement.{statement}
+use Rattle.queues.proofs.parts.planning.plan_phase.Tie as tie
+
+abbrev Inv-loop : tie.InvT-loop
+Inv-loop n places queue heads₀ tails lows₀ ends pairs₀ count₀ p₀ heads lows pairs count p =
+    Planned n p (rowsOf queue heads₀ tails lows₀ ends) places pairs₀ pairs count heads lows
+
+abbrev μ-loop : tie.MeasureT-loop
+μ-loop n places queue heads₀ tails lows₀ ends pairs₀ count₀ p₀ heads lows pairs count p = n - p
+
+loop-holds : tie.Need-loop-holds Inv-loop μ-loop
+loop-holds c = let s = c .before .before in planned-none _ _ _ _ (s .pre .0)
+
+-- the next rack's numbers are within their bounds
+rack : (c : tie.In-loop Inv-loop μ-loop) →
+    let l = c .before .loop in
+    let a = c .before .before .before .before .args in
+    Inside (l .p) (rowsOf (a .queue .now) (a .heads .now) (a .tails .now) (a .lows .now) (a .ends .now)) (a .places .now) (l .pairs) (l .count) (l .heads) (l .lows)
+rack c = let s = c .before .before .before .before in planned-inside (s .pre .0) (c .before .loop .inv) (omega arith) (s .pre .1)
+
+-- the list's length is a number of 64 bits
+fits : (c : tie.In-loop Inv-loop μ-loop) → length (c .before .loop .pairs) < 2 ^ 64
+fits c = let s = c .before .before .before .before in omega (arith, planned-long (s .pre .0) (c .before .loop .inv))
+
+mul-head : tie.Need-mul-head Inv-loop μ-loop
+mul-head c = let r = rack c in omega arith
+
+element-copy-out-head : tie.Need-element-copy-out-head Inv-loop μ-loop
+element-copy-out-head c = let r = rack c in omega arith
+
+cast-head : tie.Need-cast-head Inv-loop μ-loop
+cast-head c = let r = rack (c .before) in omega arith
+
+mul-high : tie.Need-mul-high Inv-loop μ-loop
+mul-high c = let r = rack (c .before) in omega arith
+
+element-copy-out-high : tie.Need-element-copy-out-high Inv-loop μ-loop
+element-copy-out-high c = let r = rack (c .before) in omega arith
+
+cast-high : tie.Need-cast-high Inv-loop μ-loop
+cast-high c = let r = rack (c .before .before) in omega arith
+
+mul-next-open : tie.Need-mul-next-open Inv-loop μ-loop
+mul-next-open c = let r = rack (c .before .before) in omega arith
+
+element-copy-out-next-open : tie.Need-element-copy-out-next-open Inv-loop μ-loop
+element-copy-out-next-open c = let r = rack (c .before .before) in omega arith
+
+cast-next-open : tie.Need-cast-next-open Inv-loop μ-loop
+cast-next-open c = let r = rack (c .before .before .before) in omega arith
+
+next-open-requires : tie.Need-next-open-requires Inv-loop μ-loop
+next-open-requires c κs = let r = rack (c .before .before .before) in omega arith
+
+cast-lows : tie.Need-cast-lows Inv-loop μ-loop
+cast-lows c = let r = rack (c .before .before .before .before) in omega (arith, c .next-open .ensures .within)
+
+mul-lows : tie.Need-mul-lows Inv-loop μ-loop
+mul-lows c = let r = rack (c .before .before .before .before) in omega arith
+
+element-write-lows : tie.Need-element-write-lows Inv-loop μ-loop
+element-write-lows c = let r = rack (c .before .before .before .before) in omega arith
+
+mul-plan-rack : tie.Need-mul-plan-rack Inv-loop μ-loop
+mul-plan-rack c = let r = rack (c .before .before .before .before) in omega arith
+
+element-copy-out-plan-rack : tie.Need-element-copy-out-plan-rack Inv-loop μ-loop
+element-copy-out-plan-rack c = let r = rack (c .before .before .before .before) in omega arith
+
+cast-plan-rack : tie.Need-cast-plan-rack Inv-loop μ-loop
+cast-plan-rack c = let r = rack (c .before .before .before .before .before) in omega arith
+
+mul-plan-rack-2 : tie.Need-mul-plan-rack-2 Inv-loop μ-loop
+mul-plan-rack-2 c = let r = rack (c .before .before .before .before .before .before) in omega (arith, fits (c .before .before .before .before .before .before))
+
+plan-rack-requires : tie.Need-plan-rack-requires Inv-loop μ-loop
+plan-rack-requires c κs =
+    let i = c .before .before .before .before .before .before in
+    let s = i .before .before .before .before in
+    let o = c .before .before .next-open .ensures in
+    let r = rack i in
+    let e = next-pairs (s .pre .0) (i .before .loop .inv) (omega arith) o in
+    (omega (arith, o .within, s .pre .0 .queue-long), rw e (r .room))
+
+-- what the next rack's queue and the count grow to fits
+grown : (c : tie.After-slice-known2 Inv-loop μ-loop) →
+    let l = c .before .before .before .before .before .before .before .before .before .before .loop in
+    let made = c .before .before .plan-rack .result in
+    (getD (l .heads) (l .p) 0 + made ≤ 4096) × (l .count + made < 2 ^ 64)
+grown c =
+    let i = c .before .before .before .before .before .before .before .before .before in
+    let b = i .before .before .before .before .pre .0 in
+    let o = c .before .before .before .before .before .next-open .ensures in
+    let w = c .before .before .plan-rack .ensures in
+    let r = rack i in
+    (omega (arith, next-few b (i .before .loop .inv) (omega arith) o w), omega (arith, fits i, next-made b (i .before .loop .inv) (omega arith) o w))
+
+add-heads : tie.Need-add-heads Inv-loop μ-loop
+add-heads c = let g = grown c in omega arith
+
+cast-heads : tie.Need-cast-heads Inv-loop μ-loop
+cast-heads c = let g = grown c in omega arith
+
+mul-heads : tie.Need-mul-heads Inv-loop μ-loop
+mul-heads c = let r = rack (c .before .before .before .before .before .before .before .before .before) in omega arith
+
+element-write-heads : tie.Need-element-write-heads Inv-loop μ-loop
+element-write-heads c = let r = rack (c .before .before .before .before .before .before .before .before .before) in omega arith
+
+add-count : tie.Need-add-count Inv-loop μ-loop
+add-count c = let g = grown c in omega arith
+
+add-p : tie.Need-add-p Inv-loop μ-loop
+add-p c = let r = rack (c .before .before .before .before .before .before .before .before .before) in omega arith
+
+loop-less : tie.Need-loop-less Inv-loop μ-loop
+loop-less c = let r = rack (c .before .before .before .before .before .before .before .before .before) in omega arith
+
+loop-again : tie.Need-loop-again Inv-loop μ-loop
+loop-again c =
+    let i = c .before .before .before .before .before .before .before .before .before in
+    let s = i .before .before .before .before in
+    let o = c .before .before .before .before .before .next-open .ensures in
+    planned-more (s .pre .0) (i .before .loop .inv) (omega arith) o (c .before .before .plan-rack .ensures)
+
+same-length : tie.Need-same-length Inv-loop μ-loop
+same-length c = let s = c .before .before .before .before in planned-long (s .pre .0) (c .before .loop .inv)
+
+returns : tie.Need-returns Inv-loop μ-loop
+returns c = let s = c .before .before .before .before in planned-all (s .pre .0) (c .before .loop .inv) (omega arith)
+
+pub plan-phase-spec : {M : Type 1} → statement M
+plan-phase-spec =
+    tie.close
+    (tie.spec
+    Inv-loop
+    μ-loop
+    loop-holds
+    mul-head
+    element-copy-out-head
+    cast-head
+    mul-high
+    element-copy-out-high
+    cast-high
+    mul-next-open
+    element-copy-out-next-open
+    cast-next-open
+    next-open-requires
+    cast-lows
+    mul-lows
+    element-write-lows
+    mul-plan-rack
+    element-copy-out-plan-rack
+    cast-plan-rack
+    mul-plan-rack-2
+    plan-rack-requires
+    add-heads
+    cast-heads
+    mul-heads
+    element-write-heads
+    add-count
+    add-p
+    loop-less
+    loop-again
+    same-length
+    returns)

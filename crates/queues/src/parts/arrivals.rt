@@ -1,0 +1,80 @@
+// The queues of arrivals: for each rack, the slots of the cards away to it, ascending, in its own stretch of one list.
+ghost use mathlib.Core.Path.{_≡_};
+ghost use Rattle.counting.specs.Checks.{first};
+ghost use Rattle.racks.specs.Numbers.{tableChecks};
+ghost use Rattle.racks.specs.Job.{racksOf, Sound};
+ghost use Rattle.tables.specs.Tables.{Filled};
+ghost use Rattle.queues.specs.Queues.{rowsOf};
+ghost use Rattle.queues.specs.Queued.{Firsts, Queueable, Queued};
+ghost use Rattle.queues.specs.Ready.{Ready};
+use racks::Job;
+
+// Each rack's first slot.
+fn first_slots(job: Job) -> [u16; 64]
+    requires { ⌜ Sound job ⌝ }
+    ensures { λ r. ⌜ Firsts (racksOf job) r ⌝ }
+{
+    let n = job.racks;
+    let mut list = [0u16; 64];
+    let mut low: u16 = 0;
+    let mut p: usize = 0;
+    while p < n {
+        list[p] = low;
+        low = job.ends[p];
+        p = p + 1;
+    }
+    list
+}
+
+// One slot of the pass: where its card is away, the slot goes to the tail of its card's queue.
+fn queue_slot(
+    places: &[u16],
+    table: &[u8; 4096],
+    g: usize,
+    queue: &mut [u16; 4096],
+    tails: &mut [u16; 64],
+)
+    requires { ⌜ Queueable (now table) (now places) g (now tails) ⌝ }
+    ensures { λ _. ⌜ Queued (now (table .entry)) (now (places .entry)) g (now (queue .entry)) (now (tails .entry)) (now (queue .exit)) (now (tails .exit)) ⌝ }
+{
+    let x = places[g];
+    if x == Job::FREE {
+        return;
+    }
+    let there = table[x as usize];
+    if table[g] == there {
+        return;
+    }
+    let p = there as usize;
+    let tail = tails[p];
+    queue[tail as usize] = g as u16;
+    tails[p] = tail + 1;
+}
+
+// The queues and marks of a legal table: every rack's cards wait in its queue, and its mark is its first slot.
+pub fn queue_up(
+    job: Job,
+    places: &[u16],
+    table: &[u8; 4096],
+    queue: &mut [u16; 4096],
+    heads: &mut [u16; 64],
+    tails: &mut [u16; 64],
+    lows: &mut [u16; 64],
+    ends: &mut [u16; 64],
+)
+    requires { ⌜ Sound job × Filled (racksOf job) (now table) × (first (tableChecks (racksOf job) (now places)) ≡ 0) ⌝ }
+    ensures { λ _. ⌜ Ready (racksOf job) (now (places .entry)) (rowsOf (now (queue .exit)) (now (heads .exit)) (now (tails .exit)) (now (lows .exit)) (now (ends .exit))) ⌝ }
+{
+    let first = first_slots(job);
+    let last = job.ends;
+    *queue = [0; 4096];
+    *heads = first;
+    *tails = first;
+    *lows = first;
+    *ends = last;
+    let mut g: usize = 0;
+    while g < job.slots {
+        queue_slot(places, table, g, queue, tails);
+        g = g + 1;
+    }
+}

@@ -1,0 +1,93 @@
+// The pairs of a phase, from the queues: each rack's waiting cards take its free slots from the lowest up.
+ghost use mathlib.Core.Path.{_≡_};
+ghost use Prim.Native.Nat.{ℕ, _+_, _*_, _≤_, _<_};
+ghost use lib.ListN.{length};
+ghost use Rattle.queues.specs.Queues.{served, rowsOf, queuedPlan, Bounded, NextOpen, Written, PhasePlanned};
+use racks::Job;
+
+// The first free slot from `low` on, or `high` where there is none.
+pub fn next_open(places: &[u16], low: usize, high: usize) -> usize
+    requires { ⌜ (low ≤ high) × (high ≤ length (now places)) ⌝ }
+    ensures { λ r. ⌜ NextOpen (now (places .entry)) low high r ⌝ }
+{
+    let mut g = low;
+    while g < high {
+        if places[g] == Job::FREE {
+            return g;
+        }
+        g = g + 1;
+    }
+    g
+}
+
+// Writes the pairs of one target from `at` on, two numbers each, and says how many they are.
+pub fn plan_rack(
+    places: &[u16],
+    queue: &[u16; 4096],
+    head: usize,
+    tail: usize,
+    low: usize,
+    high: usize,
+    pairs: &mut [u16],
+    at: usize,
+) -> usize
+    requires { ⌜ (head ≤ tail) × (tail ≤ 4096) × (length (now queue) ≡ 4096) × (low ≤ high) × (high ≤ length (now places)) × (high ≤ 4096) ⌝ }
+    requires { ⌜ at + 2 * length (served (now places) (now queue) head tail low high) ≤ length (now pairs) ⌝ }
+    ensures { λ r. ⌜ Written (served (now (places .entry)) (now (queue .entry)) head tail low high) (now (pairs .entry)) at (now (pairs .exit)) r ⌝ }
+{
+    let mut h = head;
+    let mut t = low;
+    let mut k = at;
+    while h < tail {
+        t = next_open(places, t, high);
+        if t == high {
+            return h - head;
+        }
+        pairs[k] = queue[h];
+        pairs[k + 1] = t as u16;
+        k = k + 2;
+        t = t + 1;
+        h = h + 1;
+    }
+    h - head
+}
+
+// Plans a phase of n racks: its pairs from the front of the list, by target rack, and how many they are. Each queue then begins behind
+// the cards that it sends, and each mark goes up to the rack's first free slot.
+pub fn plan_phase(
+    n: usize,
+    places: &[u16],
+    queue: &[u16; 4096],
+    heads: &mut [u16; 64],
+    tails: &[u16; 64],
+    lows: &mut [u16; 64],
+    ends: &[u16; 64],
+    pairs: &mut [u16],
+) -> usize
+    requires { ⌜ Bounded n (length (now places)) (rowsOf (now queue) (now heads) (now tails) (now lows) (now ends)) ⌝ }
+    requires { ⌜ 2 * length (queuedPlan n (rowsOf (now queue) (now heads) (now tails) (now lows) (now ends)) (now places)) ≤ length (now pairs) ⌝ }
+    ensures { λ r. ⌜ PhasePlanned n (rowsOf (now (queue .entry)) (now (heads .entry)) (now (tails .entry)) (now (lows .entry)) (now (ends .entry))) (now (places .entry)) (now (pairs .entry)) (now (pairs .exit)) r (now (heads .exit)) (now (lows .exit)) ⌝ }
+{
+    let mut count: usize = 0;
+    let mut p: usize = 0;
+    while p < n {
+        let head = heads[p] as usize;
+        let high = ends[p] as usize;
+        let low = next_open(places, lows[p] as usize, high);
+        lows[p] = low as u16;
+        let made = plan_rack(
+            places,
+            queue,
+            head,
+            tails[p] as usize,
+            low,
+            high,
+            pairs,
+            2 * count,
+        );
+        heads[p] = (head + made) as u16;
+        count = count + made;
+        p = p + 1;
+    }
+    count
+}
