@@ -14,7 +14,7 @@ use Rattle.counting.specs.Tests.{_and_, _or_, pick}
 use Rattle.counting.specs.Count.{some}
 use Rattle.counting.specs.Checks.{first}
 use Rattle.counting.proofs.Tests.{by-test, or-r, or-false, or-l, not-on, and-off-l, no-way}
-use Rattle.counting.proofs.Some.{some-hit, some-none, some-more, some-zero}
+use Rattle.counting.proofs.Some.{some-hit, some-none, some-cong, some-more, some-zero}
 use Rattle.counting.proofs.Checks.{first-here, first-later}
 use Rattle.racks.specs.Limits.{FREE}
 use Rattle.racks.specs.Racks.{Rack, slots, isUser}
@@ -70,6 +70,23 @@ passed-none racks places marks m =
       marks-are = λ v l. by-test (isUser racks v) (λ u. rw (u, some-zero (names places v)) (m .marks v l ∙ rw u)) (λ u. rw u (m .marks v l ∙ rw u));
       worst-is = rw (some-zero (repeats places));
       long = m .long;
+    }
+
+-- it is the first g entries alone that were passed: another table may have the same
+pub passed-cong : (racks : List Rack) (p q marks : List ℕ) (worst g : ℕ) → ((h : ℕ) → h < g → dest p h ≡ dest q h) → Passed racks p marks worst g → Passed racks q marks worst g
+unfolding badEntry repeats free names markOf
+passed-cong racks p q marks worst g e h =
+    record {
+      clean = λ k l. ap (λ (x : ℕ). not (eqb x FREE or isUser racks x)) (sym (e k l)) ∙ h .clean k l;
+      marks-are = λ v l.
+          h .marks-are v l
+          ∙ ap (λ (b : Bool). pick (isUser racks v) (pick b 2 1) 0) (some-cong g (names p v) (names q v) (λ k m. ap (λ (x : ℕ). eqb x v) (e k m)));
+      worst-is =
+          h .worst-is
+          ∙ ap (λ (b : Bool). pick b 6 0) (some-cong g (repeats p) (repeats q) (λ k l.
+          ap (λ (x : ℕ). not (eqb x FREE) and some k (names p x)) (e k l)
+          ∙ ap (λ (b : Bool). not (eqb (dest q k) FREE) and b) (some-cong k (names p (dest q k)) (names q (dest q k)) (λ j m. ap (λ (x : ℕ). eqb x (dest q k)) (e j (omega arith))))));
+      long = h .long;
     }
 
 module _ (racks : List Rack) (small : slots racks ≤ 4096) (places : List ℕ) (g : ℕ) where

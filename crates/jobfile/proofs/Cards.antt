@@ -1,0 +1,71 @@
+-- Laws of the card bytes, their number, and of a copy to the front of a list. Assumes nothing.
+use mathlib.Core.Path.{_≡_, ap, sym, _∙_}
+use mathlib.Core.List.{List, [], _∷_, _++_}
+use Prim.Native.Nat.{ℕ, suc, _+_, _-_, _≤_, _<_}
+use native.Mathlib.Omega.{arith}
+use native.Mathlib.Nat.{sub-self, le-of-eq}
+use native.Mathlib.Numerals.{add-one}
+use lib.ListN.{length, getD, set, take, drop, length-drop, drop-of-length-le}
+use lib.Seq.{sets, take-all, take-suc, length-take-le}
+use borrow.Author.Tests.{eq-eqb, ne-eqb, lt-ltb, le-ltb}
+use Rattle.counting.proofs.Checks.{first-here, first-later, first-none}
+use Rattle.jobfile.specs.Answers.{cardsOf}
+use Rattle.jobfile.specs.Parts.{leftOf, endNumber}
+use Rattle.jobfile.specs.declared.FileAnswer.{FileAnswer}
+
+-- 15, 16 or 0, by the tests that the code makes
+module _ (file : List ℕ) (place want left : ℕ) (is : left ≡ leftOf file place) where
+  -- it ends too early
+  pub end-15 : left < want → 15 ≡ endNumber file place want
+  unfolding endNumber
+  end-15 l = sym (first-here _ 15 _ (lt-ltb (leftOf file place) want (omega arith)))
+
+  -- bytes are left over
+  pub end-16 : want < left → 16 ≡ endNumber file place want
+  unfolding endNumber
+  end-16 l = sym (first-later _ 15 _ (le-ltb (leftOf file place) want (omega arith)) ∙ first-here _ 16 _ (lt-ltb want (leftOf file place) (omega arith)))
+
+  -- the cards take them all
+  pub end-0 : want ≤ left → left ≤ want → 0 ≡ endNumber file place want
+  unfolding endNumber
+  end-0 l h =
+      sym (first-later _ 15 _ (le-ltb (leftOf file place) want (omega arith)) ∙ first-later _ 16 _ (le-ltb want (leftOf file place) (omega arith)) ∙ first-none)
+
+-- the card bytes as a part of the file
+module _ (found : FileAnswer) (file : List ℕ) where
+  part-none : take (length file - length file) (drop (length file) file) ≡ []
+  part-none = rw (sub-self (length file))
+
+  -- an empty part on a refusal
+  pub cards-refused : (found .answer .number ≡ 0 → ⊥) → take (length file - length file) (drop (length file) file) ≡ cardsOf found file
+  unfolding cardsOf
+  cards-refused f = part-none ∙ rw (ne-eqb (found .answer .number) 0 f)
+
+  module _ (z : found .answer .number ≡ 0) where
+    cards-done : drop (found .place) file ≡ cardsOf found file
+    unfolding cardsOf
+    cards-done = rw (eq-eqb (found .answer .number) 0 z)
+
+    -- and where the place lies behind the file
+    pub cards-past : length file < found .place → take (length file - length file) (drop (length file) file) ≡ cardsOf found file
+    cards-past l = part-none ∙ sym (drop-of-length-le file {i = found .place} (omega arith)) ∙ cards-done
+
+    -- else all that lies behind the place
+    pub cards-behind : take (length file - found .place) (drop (found .place) file) ≡ cardsOf found file
+    cards-behind = take-all (length file - found .place) (drop (found .place) file) (le-of-eq (length-drop (found .place) file)) ∙ cards-done
+
+-- one list and then another written
+sets-append : (xs ys l : List ℕ) (i : ℕ) → sets l i (xs ++ ys) ≡ sets (sets l i xs) (i + length xs) ys
+sets-append [] ys l i = ap (λ (k : ℕ). sets l k ys) (omega arith)
+sets-append (x ∷ xs) ys l i = sets-append xs ys (set l i x) (suc i) ∙ ap (λ (k : ℕ). sets (sets l i (x ∷ xs)) k ys) (omega arith)
+
+-- one number more copied to the front
+pub copy-more : (src lent now : List ℕ) (i : ℕ) → i < length src → now ≡ sets lent 0 (take i src) → set now i (getD src i 0) ≡ sets lent 0 (take (i + 1) src)
+copy-more src lent now i l e =
+    let v = getD src i 0 in
+    let k : i ≡ 0 + length (take i src) = omega (arith, length-take-le i src (omega arith)) in
+    ap (λ (x : List ℕ). set x i v) e
+    ∙ ap (λ (j : ℕ). set (sets lent 0 (take i src)) j v) k
+    ∙ sym (sets-append (take i src) (v ∷ []) lent 0)
+    ∙ ap (λ (x : List ℕ). sets lent 0 x) (sym (take-suc src i 0 l))
+    ∙ ap (λ (j : ℕ). sets lent 0 (take j src)) (sym (add-one i))

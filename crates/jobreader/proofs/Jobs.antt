@@ -1,0 +1,28 @@
+-- The answer with the card bytes is the file reader's outcome. Assumes nothing.
+use mathlib.Core.Path.{_≡_, ap, _∙_}
+use mathlib.Core.List.{List}
+use Prim.Native.Nat.{ℕ}
+use denote.Ref.{RefT, now}
+use Rattle.jobfile.specs.File.{Read, read}
+use Rattle.jobfile.specs.Answers.{cardsOf, readOf}
+use Rattle.jobfile.specs.declared.FileAnswer.{FileAnswer}
+use Rattle.jobreader.specs.Reading.{JobRead}
+use Rattle.jobreader.specs.declared.JobFile.{JobFile}
+
+-- the answer of an outcome and of the part of the file that the card bytes are
+abbrev pub made : FileAnswer → RefT (List ℕ) → JobFile
+made found cards = record { answer = found .answer; racks = found .racks; bytes = found .bytes; slots = found .slots; cards = cards }
+
+pub job-read : (file caps places : List ℕ) (found : FileAnswer) (cards : RefT (List ℕ)) (caps′ places′ : List ℕ) → readOf found caps′ places′ file ≡ read file caps places → now cards ≡ cardsOf found file
+    → JobRead file caps places (made found cards) caps′ places′
+unfolding readOf
+job-read file caps places found cards caps′ places′ e c =
+    record {
+      answer-is = ap (λ (r : Read). r .answer) e;
+      racks-are = ap (λ (r : Read). r .racks) e;
+      bytes-are = ap (λ (r : Read). r .bytes) e;
+      slots-are = ap (λ (r : Read). r .slots) e;
+      cards-are = c ∙ ap (λ (r : Read). r .cards) e;
+      caps-are = ap (λ (r : Read). r .caps) e;
+      places-are = ap (λ (r : Read). r .places) e;
+    }

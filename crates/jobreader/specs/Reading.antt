@@ -1,0 +1,39 @@
+-- What the reader's thin functions promise. Assumes nothing: these are definitions.
+use mathlib.Core.Path.{_≡_}
+use mathlib.Core.List.{List}
+use Prim.Native.Nat.{ℕ}
+use denote.Ref.{now}
+use Rattle.jobfile.specs.Number.{number}
+use Rattle.jobfile.specs.File.{read}
+use Rattle.jobfile.specs.Answers.{gotOf}
+use Rattle.jobfile.specs.declared.Number.{Number}
+use Rattle.jobfile.specs.declared.Number.the-variants.{Value, Refused}
+use Rattle.jobreader.specs.declared.Reader.{Reader}
+use Rattle.jobreader.specs.declared.Step.{Step}
+use Rattle.jobreader.specs.declared.JobFile.{JobFile}
+
+-- the place of the reader behind a number: it moves on, and stays where the number is refused
+unfoldable pub placeAfter : Number → ℕ → ℕ
+placeAfter (Value x next) at = next
+placeAfter (Refused n) at = at
+
+-- a number of the file and the place behind it
+pub record Stepped (file : List ℕ) (at : ℕ) (step : Step) : Type 0 where
+  pub got-is : gotOf (step .number) ≡ number file at
+  pub at-is : step .at ≡ placeAfter (step .number) at
+
+-- the next number of a reader, which keeps its file and remembers its place
+pub record Next (before : Reader) (n : Number) (after : Reader) : Type 0 where
+  pub got-is : gotOf n ≡ number (now (before .file)) (before .at)
+  pub file-is : after .file ≡ before .file
+  pub at-is : after .at ≡ placeAfter n (before .at)
+
+-- **Job file.** N, B, S, the card bytes as a part of the file, and the two lent lists at exit
+pub record JobRead (file caps places : List ℕ) (job : JobFile) (caps′ places′ : List ℕ) : Type 0 where
+  pub answer-is : job .answer ≡ read file caps places .answer
+  pub racks-are : job .racks ≡ read file caps places .racks
+  pub bytes-are : job .bytes ≡ read file caps places .bytes
+  pub slots-are : job .slots ≡ read file caps places .slots
+  pub cards-are : now (job .cards) ≡ read file caps places .cards
+  pub caps-are : caps′ ≡ read file caps places .caps
+  pub places-are : places′ ≡ read file caps places .places

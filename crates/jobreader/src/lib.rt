@@ -1,0 +1,68 @@
+// The reader of job files in the form that 01 names: a struct that holds the file and a place in it, and an answer that holds the
+// card bytes as a part of the file. Thin functions over the covered ones of `jobfile`.
+ghost use mathlib.Core.Path.{_≡_};
+ghost use Rattle.jobreader.specs.Reading.{Stepped, Next, JobRead};
+use jobfile::Number;
+use racks::Answer;
+
+// A file and the reader's place in it.
+pub struct Reader<'a> {
+    pub file: &'a [u8],
+    pub at: usize,
+}
+
+// A number of the file, and the place of the reader behind it.
+pub struct Step {
+    pub number: Number,
+    pub at: usize,
+}
+
+// What the file reader gives: N, B, S, and the card bytes as a part of the file, empty on a refusal.
+pub struct JobFile<'a> {
+    pub answer: Answer,
+    pub racks: usize,
+    pub bytes: usize,
+    pub slots: usize,
+    pub cards: &'a [u8],
+}
+
+// The number at a place, and the place behind it; the same place where the number is refused.
+pub fn step_at(file: &[u8], at: usize) -> Step
+    ensures { λ r. ⌜ Stepped (now (file .entry)) at r ⌝ }
+{
+    let number = jobfile::parts::next_number(file, at);
+    match number {
+        Number::Value(_, next) => Step { number, at: next },
+        Number::Refused(_) => Step { number, at },
+    }
+}
+
+// A reader at the start of a file.
+pub fn new<'a>(file: &'a [u8]) -> Reader<'a>
+    ensures { λ r. ⌜ (r .file ≡ file .entry) × (r .at ≡ 0) ⌝ }
+{
+    Reader { file, at: 0 }
+}
+
+// The next number: the reader's place moves on behind it, and stays where it is refused.
+pub fn next<'s, 'a>(r: &'s mut Reader<'a>) -> Number
+    ensures { λ n. ⌜ Next (now (r .entry)) n (now (r .exit)) ⌝ }
+{
+    let step = step_at(r.file, r.at);
+    r.at = step.at;
+    step.number
+}
+
+// Job file: the capacities and the places stand at the front of the lent lists; nothing is written on a refusal.
+pub fn read_job<'a>(file: &'a [u8], caps: &mut [u16], places: &mut [u16]) -> JobFile<'a>
+    ensures { λ r. ⌜ JobRead (now (file .entry)) (now (caps .entry)) (now (places .entry)) r (now (caps .exit)) (now (places .exit)) ⌝ }
+{
+    let found = jobfile::read_file(file, caps, places);
+    JobFile {
+        answer: found.answer,
+        racks: found.racks,
+        bytes: found.bytes,
+        slots: found.slots,
+        cards: jobfile::card_bytes(file, found),
+    }
+}
