@@ -20,7 +20,7 @@ use Rattle.phases.specs.Plan.{other, sources, lowest, granted, openSlots, room,
 use Rattle.moves.specs.Blocks.{block, putBlock, blank}
 use Rattle.moves.specs.Moves.{movedPlaces, movedCards, carriedPlaces, carriedCards, endChecks, moveChecks, moved}
 use Rattle.moves.specs.Phases.{phasesFrom, phases, budget, budgeted}
-use Rattle.shuffle.specs.Copies.{next, source, after, onward, back, onCycle, head, factor, factorsFrom, factors, shift, cycle, copies, copyList}
+use Rattle.copies.specs.Copies.{next, source, after, onward, back, onCycle, head, factor, factorsFrom, factors, shift, cycle, copies, copyList}
 use Rattle.shuffle.specs.Shuffle.{taken, laid, runCopies, brought, isNamed, lastEntry, lastCard, settledHeld}
 use Rattle.runs.specs.Run.{gathered, hasPairs, counts}
 use Rattle.jobfile.specs.Number.{groups, number, numbers}

@@ -15,7 +15,7 @@ use Rattle.racks.specs.declared.Answer.{Answer}
 use Rattle.moves.specs.Blocks.{block}
 use Rattle.moves.specs.Moves.{Held}
 use Rattle.moves.specs.Phases.{phases}
-use Rattle.shuffle.specs.Copies.{copyList}
+use Rattle.copies.specs.Copies.{copyList}
 use Rattle.shuffle.specs.Shuffle.{settledHeld}
 use Rattle.runs.specs.Run.{gathered, counts}
 use Rattle.jobfile.specs.File.{fileRacks, fileBytes, filePlaces, fileCards, fileChecks}

@@ -1,0 +1,64 @@
+-- Which cards are away, by the table of each slot's rack. Assumes nothing.
+use mathlib.Core.Path.{_≡_, refl, sym, ap, _∙_}
+use mathlib.Core.Logic.{_≢_}
+use mathlib.Core.Bool.{Bool, true, false, not}
+use mathlib.Core.List.{List}
+use Prim.Native.Nat.{ℕ, zero, suc, _+_, _<_}
+use native.Mathlib.Omega.{arith}
+use lib.Dec.{eqb}
+use lib.ListN.{length, getD}
+use borrow.Author.Tests.{eq-eqb, ne-eqb}
+use Rattle.counting.specs.Tests.{_and_}
+use Rattle.counting.specs.Count.{some}
+use Rattle.counting.proofs.Tests.{by-test, or-none, and-off-l}
+use Rattle.counting.proofs.Some.{some-hit, some-more}
+use Rattle.racks.specs.Limits.{FREE}
+use Rattle.racks.specs.Racks.{Rack, slots}
+use Rattle.racks.specs.Table.{dest, free, rackTo, onRack, away}
+use Rattle.racks.specs.Numbers.{someAway}
+use Rattle.racks.proofs.LegalTable.{Legal, legal-dest}
+use Rattle.tables.specs.Tables.{Filled}
+use Rattle.copies.specs.Writes.{awayBy, someAwayBy}
+
+some-cong : (n : ℕ) (f g : ℕ → Bool) → ((k : ℕ) → k < n → f k ≡ g k) → some n f ≡ some n g
+unfolding some
+some-cong zero f g h = refl
+some-cong (suc n) f g h = rw (some-cong n f g (λ k l. h k (omega arith)), h n (omega arith))
+
+module _ (table places : List ℕ) (g : ℕ) where
+  -- no card is away from a free slot
+  pub by-free : dest places g ≡ FREE → false ≡ awayBy table places g
+  unfolding awayBy free
+  by-free e = sym (and-off-l _ (ap not (eq-eqb (dest places g) FREE e)))
+
+  -- a card is away where its slot's rack is not that of its destination
+  pub by-racks : dest places g ≢ FREE → (to : ℕ) → to ≡ dest places g → not (eqb (getD table g 0) (getD table to 0)) ≡ awayBy table places g
+  unfolding awayBy free _and_
+  by-racks q to e = rw (ne-eqb (dest places g) FREE q, e)
+
+  -- where one is, some is
+  pub some-here : g < length places → awayBy table places g ≡ true → true ≡ someAwayBy table places
+  unfolding someAwayBy
+  some-here l e = sym (some-hit (length places) (awayBy table places) g l e)
+
+  -- one slot more where none is
+  pub none-more : some g (awayBy table places) ≡ false → awayBy table places g ≡ false → some (g + 1) (awayBy table places) ≡ false
+  none-more e f = some-more g (awayBy table places) ∙ or-none e f
+
+  -- none is away, from all slots
+  pub none-all : g ≡ length places → some g (awayBy table places) ≡ false → false ≡ someAwayBy table places
+  unfolding someAwayBy
+  none-all e f = sym (ap (λ (n : ℕ). some n (awayBy table places)) (sym e) ∙ f)
+
+-- by a table that has each slot's rack, the cards that are away are away
+module _ (racks : List Rack) (table places : List ℕ) (filled : Filled racks table) (v : Legal racks places) where
+  away-by : (g : ℕ) → g < slots racks → awayBy table places g ≡ away racks places g
+  unfolding awayBy away onRack rackTo _and_
+  away-by g l = by-test (free places g)
+      (λ e. rw e)
+      (λ e. rw (e, filled g l, filled (dest places g) (legal-dest racks places v g l e)))
+
+  -- so some card is away by the table exactly where one is
+  pub some-away-by : someAwayBy table places ≡ someAway racks places
+  unfolding someAwayBy someAway
+  some-away-by = ap (λ (n : ℕ). some n (awayBy table places)) (v .long) ∙ some-cong (slots racks) (awayBy table places) (away racks places) away-by

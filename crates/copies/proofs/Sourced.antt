@@ -1,0 +1,74 @@
+-- The inverse of the table, filled in one pass. Assumes nothing.
+use mathlib.Core.Path.{_≡_, refl, sym, ap, _∙_}
+use mathlib.Core.Logic.{_≢_}
+use mathlib.Core.List.{List}
+use Prim.Native.Nat.{ℕ, _+_, _<_}
+use native.Mathlib.Omega.{arith}
+use native.Mathlib.Numerals.{add-one}
+use native.Mathlib.Decide.{ℕ-discrete}
+use lib.ListN.{length, getD, set, replicate, length-set, getD-replicate, length-replicate}
+use lib.Seq.{getD-set-same, getD-set-other}
+use borrow.Author.Tests.{eq-eqb, ne-eqb}
+use Rattle.counting.specs.Count.{seek}
+use Rattle.racks.specs.Limits.{FREE}
+use Rattle.racks.specs.Table.{dest, names}
+use Rattle.copies.specs.Copies.{source}
+use Rattle.copies.specs.Chains.{Chained}
+use Rattle.copies.specs.Writes.{Sources, putSource}
+use Rattle.copies.proofs.Chains.{next-is}
+
+-- the sources among the first g slots are in the table
+pub record SourcesTo (places : List ℕ) (g : ℕ) (table : List ℕ) : Type 0 where
+  pub sources : (d : ℕ) → d < 4096 → getD table d 0 ≡ seek FREE g (names places d)
+  pub long : length table ≡ 4096
+
+-- a free slot is no source
+pub put-source-free : (table : List ℕ) (x g : ℕ) → x ≡ FREE → table ≡ putSource table x g
+unfolding putSource
+put-source-free table x g e = rw (eq-eqb x FREE e)
+
+-- the card in slot g makes g the source of its destination
+pub put-source-is : (table : List ℕ) (x g to from : ℕ) → x ≢ FREE → to ≡ x → from ≡ g → set table to from ≡ putSource table x g
+unfolding putSource
+put-source-is table x g to from q e f = rw (ne-eqb x FREE q, e, f)
+
+seek-on : (places : List ℕ) (g d : ℕ) → dest places g ≡ d → seek FREE (g + 1) (names places d) ≡ g
+unfolding seek names
+seek-on places g d e = rw (add-one g, eq-eqb (dest places g) d e)
+
+seek-off : (places : List ℕ) (g d : ℕ) → dest places g ≢ d → seek FREE (g + 1) (names places d) ≡ seek FREE g (names places d)
+unfolding seek names
+seek-off places g d q = rw (add-one g, ne-eqb (dest places g) d q)
+
+module _ (places : List ℕ) where
+  -- at first there are none
+  pub sources-none : SourcesTo places 0 (replicate 4096 65535)
+  unfolding seek
+  sources-none = record { sources = λ d l. getD-replicate 4096 d 65535 0 l; long = length-replicate {A = ℕ} 4096 65535 }
+
+  -- one slot's entry more
+  pub sources-more : (g : ℕ) (table after : List ℕ) → SourcesTo places g table → after ≡ putSource table (dest places g) g → SourcesTo places (g + 1) after
+  unfolding putSource
+  sources-more g table after s e = elim (ℕ-discrete (dest places g) FREE) [
+    | yes f ↦
+        let same : after ≡ table = e ∙ rw (eq-eqb (dest places g) FREE f) in
+        rw same (record { sources = λ d l. s .sources d l ∙ sym (seek-off places g d (λ i. omega arith)); long = s .long })
+    | no q ↦
+        let put : after ≡ set table (dest places g) g = e ∙ rw (ne-eqb (dest places g) FREE q) in
+        rw put (record {
+          sources = λ d l. elim (ℕ-discrete d (dest places g)) [
+            | yes i ↦ rw i (getD-set-same table (dest places g) g 0 (omega (arith, s .long)) ∙ sym (seek-on places g (dest places g) refl))
+            | no i ↦ getD-set-other table (dest places g) d g 0 i ∙ s .sources d l ∙ sym (seek-off places g d (λ j. i (sym j)))
+          ];
+          long = length-set table (dest places g) g ∙ s .long;
+        })
+  ]
+
+  -- after all entries the table is the inverse
+  pub sources-all : (g : ℕ) (table : List ℕ) → g ≡ length places → SourcesTo places g table → Sources places table
+  unfolding source
+  sources-all g table e s = record { sources = λ d l. s .sources d l ∙ ap (λ (n : ℕ). seek FREE n (names places d)) e; long = s .long }
+
+-- a card's destination is a slot of the table
+pub entry-low : {places : List ℕ} → Chained places → (g : ℕ) → g < length places → dest places g ≢ FREE → dest places g < length places
+entry-low {places} ok g l q = let e = next-is places g l in rw e at (ok .below g (rw e q))

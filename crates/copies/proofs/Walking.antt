@@ -1,0 +1,144 @@
+-- A walk as a loop makes it: what has been passed, and what is to come. Assumes nothing.
+use mathlib.Core.Path.{_≡_, refl, sym, ap, _∙_}
+use mathlib.Core.Logic.{_≢_, inl, inr}
+use mathlib.Core.Bool.{Bool, true, false}
+use mathlib.Core.List.{List, [], _∷_, _++_, append-assoc, append-nil}
+use Prim.Native.Nat.{ℕ, suc, _+_, _-_, _≤_, _<_}
+use native.Mathlib.Omega.{arith}
+use native.Mathlib.Decide.{ℕ-discrete}
+use lib.ListN.{length, set, length-append, length-set}
+use lib.Seq.{getD-set-same, getD-set-other}
+use borrow.Author.Tests.{eq-eqb, ne-eqb}
+use Rattle.counting.specs.Tests.{_or_, pick}
+use Rattle.counting.specs.Lists.{among, last}
+use Rattle.counting.proofs.Tests.{by-test}
+use Rattle.racks.specs.Limits.{FREE}
+use Rattle.copies.specs.Copies.{next, source, after, onward, back, head}
+use Rattle.copies.specs.Chains.{Chained}
+use Rattle.copies.specs.Writes.{Marked}
+use Rattle.copies.proofs.Walks.{Ends, after-stop, after-go}
+use Rattle.copies.proofs.Chains.{back-short, head-cycle, head-shift}
+
+last-snoc : (x y : ℕ) (l : List ℕ) → last x (l ++ y ∷ []) ≡ y
+unfolding last
+last-snoc x y [] = refl
+last-snoc x y (z ∷ l) = last-snoc z y l
+
+-- n of the S steps from s are made, to x
+pub record Walking (f : ℕ → ℕ) (s S n x : ℕ) : Type 0 where
+  pub past : List ℕ
+  pub all : after f s S s ≡ past ++ after f s (S - n) x
+  pub count : length past ≡ n
+  pub here : x ≡ last s past
+
+module _ (f : ℕ → ℕ) (s S : ℕ) where
+  -- no step is made
+  pub walk-begin : Walking f s S 0 s
+  unfolding last
+  walk-begin = let e : S - 0 ≡ S = omega arith in record { past = []; all = rw e; count = refl; here = refl }
+
+  -- a step more
+  pub walk-more : (n x y : ℕ) → Walking f s S n x → n < S → y ≡ f x → y ≢ FREE → y ≢ s → Walking f s S (n + 1) y
+  walk-more n x y w l e p q =
+      let i : S - n ≡ suc (S - (n + 1)) = omega arith in
+      let go = after-go f s (S - (n + 1)) x (λ u. elim u [ inl v ↦ p (e ∙ v) | inr v ↦ q (e ∙ v) ]) in
+      record {
+        past = w .past ++ y ∷ [];
+        all = w .all ∙ rw (i, go, ← e) (sym (append-assoc (w .past) (y ∷ []) (after f s (S - (n + 1)) y)));
+        count = omega (arith, length-append (w .past) (y ∷ []), w .count);
+        here = sym (last-snoc s y (w .past));
+      }
+
+  -- the walk ends here
+  pub walk-stop : (n x : ℕ) (w : Walking f s S n x) → Ends s (f x) → after f s S s ≡ w .past
+  walk-stop n x w e = w .all ∙ rw (after-stop f s (S - n) x e) (append-nil (w .past))
+
+  -- all steps are made
+  pub walk-out : (n x : ℕ) (w : Walking f s S n x) → S ≤ n → after f s S s ≡ w .past
+  unfolding after
+  walk-out n x w l = let z : S - n ≡ 0 = omega arith in w .all ∙ rw z (append-nil (w .past))
+
+-- the way back from k, as the code walks it
+module _ {places : List ℕ} (ok : Chained places) (k : ℕ) (low : k < length places) (n x : ℕ) (w : Walking (source places) k (length places) n x) where
+  ends-at : Ends k (source places x) → last k (back places k) ≡ x
+  unfolding back
+  ends-at e = ap (last k) (walk-stop (source places) k (length places) n x w e) ∙ sym (w .here)
+
+  -- no card comes to x: the factor begins there
+  pub head-free : source places x ≡ FREE → x ≡ head places k
+  head-free e =
+      let l = ends-at (inl e) in
+      sym (head-shift ok k low (λ i. absurd (omega (arith, sym (ap (source places) l ∙ e) ∙ i, ok .small))) ∙ l)
+
+  -- k's card comes to x: a cycle
+  pub head-turn : source places x ≡ k → k ≡ head places k
+  head-turn e = sym (head-cycle ok k low (ap (source places) (ends-at (inr e)) ∙ e))
+
+  -- S steps are never made
+  pub never-out : length places ≤ n → ⊥
+  unfolding back
+  never-out l = omega (arith, ap length (walk-out (source places) k (length places) n x w l), w .count, back-short ok k low)
+
+-- marks
+pub mark-one : (seen : List ℕ) (x : ℕ) → x < length seen → Marked (x ∷ []) seen (set seen x 1)
+unfolding among _or_
+mark-one seen x h = record {
+  marks = λ v. elim (ℕ-discrete v x) [
+    | yes e ↦ rw (e, eq-eqb x x refl) (getD-set-same seen x 1 0 h)
+    | no q ↦ rw (ne-eqb v x q) (getD-set-other seen x v 1 0 q)
+  ];
+  long = length-set seen x 1;
+}
+
+-- among two lists: among one of them
+pub among-append : (v : ℕ) (a b : List ℕ) → among v (a ++ b) ≡ (among v a or among v b)
+unfolding among _or_
+among-append v [] b = refl
+among-append v (x ∷ a) b = elim (ℕ-discrete v x) [ yes e ↦ rw (eq-eqb v x e) | no q ↦ rw (ne-eqb v x q) (among-append v a b) ]
+
+-- slots marked, and then others
+pub mark-more : (a b : List ℕ) (s t u : List ℕ) → Marked a s t → Marked b t u → Marked (a ++ b) s u
+unfolding _or_
+mark-more a b s t u m n = record {
+  marks = λ v. n .marks v ∙ rw (m .marks v, among-append v a b) (by-test (among v a) (λ e. rw e (both v (among v b))) (λ e. rw e));
+  long = n .long ∙ m .long;
+}
+  where
+    both : (v : ℕ) (b : Bool) → _≡_ {A = ℕ} (pick b 1 1) 1
+    both v true = refl
+    both v false = refl
+
+-- the chain from h, as the code marks it behind h
+pub record Marking (places : List ℕ) (h n x : ℕ) (before after : List ℕ) : Type 0 where
+  pub walking : Walking (next places) h (length places) n x
+  pub marked : Marked (walking .past) before after
+
+module _ (places : List ℕ) (h : ℕ) where
+  -- at first only h is marked
+  pub marking-begin : (before : List ℕ) → Marking places h 0 h before before
+  unfolding walk-begin among
+  marking-begin before = record { walking = walk-begin (next places) h (length places); marked = record { marks = λ v. refl; long = refl } }
+
+  module _ (n x : ℕ) (before seen : List ℕ) (m : Marking places h n x before seen) where
+    -- a slot more is marked
+    pub marking-more : (y : ℕ) → n < length places → y ≡ next places x → y ≢ FREE → y ≢ h → y < length seen → Marking places h (n + 1) y before (set seen y 1)
+    unfolding walk-more
+    marking-more y l e p q b = record {
+      walking = walk-more (next places) h (length places) n x y (m .walking) l e p q;
+      marked = mark-more (m .walking .past) (y ∷ []) before seen (set seen y 1) (m .marked) (mark-one seen y b);
+    }
+
+  -- h is marked, and the chain behind it: counted
+  module _ (n x : ℕ) (start seen : List ℕ) (low : h < length start) (m : Marking places h n x (set start h 1) seen) where
+    done : onward places h ≡ m .walking .past → (n ≡ length (onward places h)) × Marked (h ∷ onward places h) start seen
+    done e = rw e (sym (m .walking .count), mark-more (h ∷ []) (m .walking .past) start (set start h 1) seen (mark-one start h low) (m .marked))
+
+    -- the chain ends here
+    pub marking-stop : Ends h (next places x) → (n ≡ length (onward places h)) × Marked (h ∷ onward places h) start seen
+    unfolding onward
+    marking-stop e = done (walk-stop (next places) h (length places) n x (m .walking) e)
+
+    -- all steps are made
+    pub marking-out : length places ≤ n → (n ≡ length (onward places h)) × Marked (h ∷ onward places h) start seen
+    unfolding onward
+    marking-out l = done (walk-out (next places) h (length places) n x (m .walking) l)

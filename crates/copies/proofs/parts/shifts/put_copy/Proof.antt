@@ -1,0 +1,41 @@
+use Rattle.copies.proofs.Writing.{put-one}
+use borrow.Author.Needs.{needs}
+use Rattle.copies.proofs.parts.shifts.put_copy.Statement.{statement}
+use Rattle.copies.proofs.parts.shifts.put_copy.Tie as tie
+
+mul-list : tie.Need-mul-list
+mul-list c = search needs
+
+mul-list-2 : tie.Need-mul-list-2
+mul-list-2 c = search needs
+
+element-write-list : tie.Need-element-write-list
+element-write-list c = search needs
+
+mul-list-3 : tie.Need-mul-list-3
+mul-list-3 c = search needs
+
+add-list : tie.Need-add-list
+add-list c = search needs
+
+mul-list-4 : tie.Need-mul-list-4
+mul-list-4 c = search needs
+
+element-write-list-2 : tie.Need-element-write-list-2
+element-write-list-2 c = search needs
+
+returns : tie.Need-returns
+returns c = put-one _ _ _ _
+
+pub put-copy-spec : {M : Type 1} → statement M
+put-copy-spec =
+    tie.close
+    (tie.spec
+    mul-list
+    mul-list-2
+    element-write-list
+    mul-list-3
+    add-list
+    mul-list-4
+    element-write-list-2
+    returns)

@@ -1,0 +1,6 @@
+pub mod Bytes
+pub mod Settled
+pub mod ByteLoops
+pub mod Copying
+pub mod Settling
+pub mod Shuffles
