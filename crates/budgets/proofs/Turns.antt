@@ -92,10 +92,10 @@ module _ (racks : List Rack) (n : ℕ) (table : List ℕ) (f : Fixed racks n tab
       }
 
   module _ (made : ℕ) (h′ : Held) (pairs′ heads lows : List ℕ) (r : PhaseRun n b left rows h table pairs made h′ pairs′ heads lows) where
-    made-is : made ≡ min (length (plan racks (h .places))) left
+    pub made-is : made ≡ min (length (plan racks (h .places))) left
     made-is = r .made-is ∙ ap (λ (ms : List Pair). min (length ms) left) all-is
 
-    held-is : h′ ≡ carried b (take left (plan racks (h .places))) h
+    pub held-is : h′ ≡ carried b (take left (plan racks (h .places))) h
     held-is = rw (← all-is) (r .held-is)
 
     in-turn : InTurn racks (h .places) (take left (plan racks (h .places)))

@@ -1,0 +1,5 @@
+// What the listing puts together: words and numbers, arrows, lines.
+
+pub mod arrows;
+pub mod lines;
+pub mod words;

@@ -1,0 +1,5 @@
+pub mod Paying
+pub mod Owing
+pub mod Rounds
+pub mod Ending
+pub mod Totals

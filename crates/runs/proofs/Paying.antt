@@ -1,0 +1,82 @@
+-- The moves of a list of numbers, paid for move by move. Assumes nothing.
+use mathlib.Core.Path.{_≡_, ap}
+use mathlib.Core.List.{List, _∷_}
+use Prim.Native.Nat.{ℕ, _+_, _-_, _≤_, _<_}
+use native.Mathlib.Nat.{add-zero}
+use native.Mathlib.Omega.{arith}
+use lib.ListN.{length, getD, set, length-set}
+use Rattle.counting.specs.Lists.{Pair}
+use Rattle.racks.specs.Answers.{plusMove}
+use Rattle.racks.specs.declared.Tally.{Tally}
+use Rattle.plans.specs.Owed.{cell}
+use Rattle.moves.specs.Parts.{pairsIn}
+use Rattle.moves.proofs.Flat.{pairs-more, pairs-none}
+use Rattle.runs.specs.Kept.{cellOf, pay, paid, plusMoves, Payable}
+use Rattle.runs.specs.Kept.Payable.{more}
+
+-- where the moves of a list can be paid for, the first of them can
+head : {table : List ℕ} {m : Pair} {ms : List Pair} {counts : List ℕ} → Payable table (m ∷ ms) counts
+    → (m .0 < 4096) × (m .1 < 4096) × (getD table (m .0) 0 < 64) × (getD table (m .1) 0 < 64) × (0 < getD counts (cellOf table m) 0)
+head (more a b x y o r) = (a, b, x, y, o)
+
+-- and then those after it
+tail : {table : List ℕ} {m : Pair} {ms : List Pair} {counts : List ℕ} → Payable table (m ∷ ms) counts → Payable table ms (pay table m counts)
+tail (more a b x y o r) = r
+
+-- the moves left can be paid for, and end as all of them do
+pub record Paying (list : List ℕ) (i high : ℕ) (table counts end : List ℕ) : Type 0 where
+  pub payable : Payable table (pairsIn list i high) counts
+  pub ends : paid table (pairsIn list i high) counts ≡ end
+  pub long : length counts ≡ 4096
+
+-- the tally has room for the moves left, and with them is what it is with all
+pub record Tallying (list : List ℕ) (i high : ℕ) (t end : Tally) : Type 0 where
+  pub room : t .moves + t .moves + (high - i) ≤ 8192
+  pub ends : plusMoves (length (pairsIn list i high)) t ≡ end
+
+module _ (list : List ℕ) (i high : ℕ) (fits : high ≤ length list) where
+  module _ {table counts end : List ℕ} (s : Paying list i high table counts end) where
+    -- the ends of the first of them are in the table, and their racks below 64
+    pub paying-ends : i + 2 ≤ high
+        → (getD list i 0 < 4096) × (getD list (i + 1) 0 < 4096) × (getD table (getD list i 0) 0 < 64) × (getD table (getD list (i + 1) 0) 0 < 64)
+    paying-ends l =
+        let h = head (rw (pairs-more list i high fits l) at (s .payable)) in
+        (h .0, h .1, h .2, h .3)
+
+    -- it is still owed
+    pub paying-owed : (k : ℕ) → i + 2 ≤ high → k ≡ cell (getD table (getD list i 0) 0) (getD table (getD list (i + 1) 0) 0)
+        → (length counts ≡ 4096) × (k < 4096) × (0 < getD counts k 0)
+    unfolding cellOf
+    paying-owed k l e =
+        let h = head (rw (pairs-more list i high fits l) at (s .payable)) in
+        (s .long, omega arith, rw e (h .4))
+
+    -- once it is paid for, those after it can be
+    pub paying-more : (k : ℕ) (counts′ : List ℕ) → i + 2 ≤ high → k ≡ cell (getD table (getD list i 0) 0) (getD table (getD list (i + 1) 0) 0)
+        → counts′ ≡ set counts k (getD counts k 0 - 1) → Paying list (i + 2) high table counts′ end
+    unfolding cellOf pay paid
+    paying-more k counts′ l ek e = record {
+      payable = rw (e, ek) (tail (rw (pairs-more list i high fits l) at (s .payable)));
+      ends = rw (e, ek) (rw (pairs-more list i high fits l) at (s .ends));
+      long = rw e (simp length-set (s .long));
+    }
+
+    -- none is left
+    pub paying-done : high < i + 2 → counts ≡ end
+    unfolding paid
+    paying-done l = rw (pairs-none list i high fits l) at (s .ends)
+
+  module _ {t end : Tally} (s : Tallying list i high t end) where
+    -- one move more is counted
+    pub tallying-more : (t′ : Tally) → i + 2 ≤ high → t′ ≡ plusMove t → Tallying list (i + 2) high t′ end
+    tallying-more t′ l e =
+        let m : Pair = (getD list i 0, getD list (i + 1) 0) in
+        let n : t .moves + 1 + length (pairsIn list (i + 2) high) ≡ t .moves + length (m ∷ pairsIn list (i + 2) high) = omega arith in
+        record {
+          room = omega (arith, ap (λ (x : Tally). x .moves) e, s .room);
+          ends = rw (e, n) (rw (pairs-more list i high fits l) at (s .ends));
+        }
+
+    -- all are counted
+    pub tallying-done : high < i + 2 → t ≡ end
+    tallying-done l = simp add-zero at (rw (pairs-none list i high fits l) at (s .ends))
