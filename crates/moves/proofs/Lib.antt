@@ -11,3 +11,4 @@ pub mod FirstFit
 pub mod Waits
 pub mod Ends
 pub mod Outcomes
+pub mod Kept

@@ -3,3 +3,4 @@ pub mod Owing
 pub mod Rounds
 pub mod Ending
 pub mod Totals
+pub mod WholeRun

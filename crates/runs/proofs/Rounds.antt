@@ -48,7 +48,7 @@ unfolding aways
 aways-few racks places = count-le (slots racks) (away-at racks places)
 
 -- plans that all have pairs are counted whole
-all-counted : {ps : List (List Pair)} → All HasPair ps → matching hasPairs ps ≡ length ps
+pub all-counted : {ps : List (List Pair)} → All HasPair ps → matching hasPairs ps ≡ length ps
 unfolding matching hasPairs
 all-counted none = refl
 all-counted (more {x} h r) = rw (lt-ltb 0 (length x) h) (omega (arith, all-counted r))
