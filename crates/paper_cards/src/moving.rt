@@ -200,7 +200,7 @@ fn budget_cases() {
 }
 
 // Case 9: B 256 is accepted, 257 and 0 are not.
-fn sizes() {
+fn size_256() {
     say_budget(
         b"B 256",
         &[1, 1],
@@ -209,6 +209,9 @@ fn sizes() {
         &mut [1; 1024],
         2,
     );
+}
+
+fn size_257() {
     say_budget(
         b"B 257",
         &[1, 1],
@@ -217,6 +220,9 @@ fn sizes() {
         &mut [1; 1028],
         2,
     );
+}
+
+fn size_none() {
     say_budget(
         b"B 0",
         &[1, 1],
@@ -242,5 +248,7 @@ pub fn run() {
     plan_edges();
     move_cases();
     budget_cases();
-    sizes();
+    size_256();
+    size_257();
+    size_none();
 }

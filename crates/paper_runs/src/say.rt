@@ -1,0 +1,80 @@
+// What the cases print.
+use racks::Answer;
+use racks::Job;
+
+// A name, the number given, and the counts of phases, moves and copies.
+pub fn say_answer(name: &[u8], answer: Answer) {
+    let tally = answer.tally;
+    io::write_all(1, name);
+    io::write_all(1, b": ");
+    io::print_decimal(1, answer.number as u64);
+    io::write_all(1, b" counts ");
+    io::print_decimal(1, tally.phases as u64);
+    io::write_all(1, b" ");
+    io::print_decimal(1, tally.moves as u64);
+    io::write_all(1, b" ");
+    io::print_decimal(1, tally.copies as u64);
+}
+
+// A number of a list: `F` for a free slot, `h` for the hand.
+fn say_number(x: u16) {
+    if x == Job::FREE {
+        io::write_all(1, b"F");
+        return;
+    }
+    if x == Job::HAND {
+        io::write_all(1, b"h");
+        return;
+    }
+    io::print_decimal(1, x as u64);
+}
+
+fn say_entry(x: u16) {
+    io::write_all(1, b" ");
+    say_number(x);
+}
+
+// A number of a list of copies: from, then to.
+fn say_step(i: usize, x: u16) {
+    if i % 2 == 0 {
+        say_entry(x);
+        return;
+    }
+    io::write_all(1, b">");
+    say_number(x);
+}
+
+// The whole of a lent list as copies.
+pub fn say_steps(lent: &[u16]) {
+    io::write_all(1, b" copies");
+    let mut i: usize = 0;
+    while i < lent.len() {
+        say_step(i, lent[i]);
+        i = i + 1;
+    }
+    io::write_all(1, b"\n");
+}
+
+pub fn say_places(places: &[u16]) {
+    io::write_all(1, b" places");
+    let mut i: usize = 0;
+    while i < places.len() {
+        say_entry(places[i]);
+        i = i + 1;
+    }
+}
+
+fn say_byte(x: u8) {
+    io::write_all(1, b" ");
+    io::print_hex(1, x as u64, 2);
+}
+
+pub fn say_cards(cards: &[u8]) {
+    io::write_all(1, b" cards");
+    let mut i: usize = 0;
+    while i < cards.len() {
+        say_byte(cards[i]);
+        i = i + 1;
+    }
+    io::write_all(1, b"\n");
+}
