@@ -12,7 +12,7 @@ use Rattle.counting.specs.Lists.{Pair}
 use Rattle.racks.specs.Racks.{Rack, base, rackOf}
 use Rattle.racks.specs.Table.{free}
 use Rattle.racks.proofs.Geometry.{rack-lt, rack-in, rack-is}
-use Rattle.racks.proofs.LegalTable.{Legal}
+use Rattle.racks.specs.Legal.{Legal}
 use Rattle.tables.specs.Tables.{Filled}
 use Rattle.phases.proofs.Allowed.{Allowed}
 use Rattle.moves.specs.Moves.{movedPlaces, carriedPlaces}

@@ -6,7 +6,7 @@ use native.Mathlib.Omega.{arith}
 use lib.ListN.{length, getD, take, drop}
 use lib.Seq.{drop-drop}
 use Rattle.racks.specs.Racks.{Rack, base}
-use Rattle.racks.proofs.LegalTable.{Legal}
+use Rattle.racks.specs.Legal.{Legal}
 use Rattle.tables.specs.Tables.{Filled}
 use Rattle.phases.specs.Plan.{plan, openSlots}
 use Rattle.phases.proofs.Plans.{plan-allowed, plan-apart}

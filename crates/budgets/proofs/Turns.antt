@@ -15,7 +15,8 @@ use Rattle.racks.specs.Racks.{Rack, slots}
 use Rattle.racks.specs.Table.{aways}
 use Rattle.racks.specs.Numbers.{someAway}
 use Rattle.racks.proofs.Geometry.{rack-lt}
-use Rattle.racks.proofs.LegalTable.{Legal, Spared, legal}
+use Rattle.racks.specs.Legal.{Legal, Spared}
+use Rattle.racks.proofs.LegalTable.{legal}
 use Rattle.racks.proofs.Jobs.{sound-few, sound-racks}
 use Rattle.racks.specs.Job.{racksOf}
 use Rattle.racks.specs.declared.Job.{Job}

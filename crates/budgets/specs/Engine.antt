@@ -12,7 +12,7 @@ use Rattle.racks.specs.Table.{aways}
 use Rattle.racks.specs.Numbers.{tableChecks}
 use Rattle.racks.specs.Job.{racksOf, Sound}
 use Rattle.racks.specs.declared.Job.{Job}
-use Rattle.racks.proofs.LegalTable.{Spared}
+use Rattle.racks.specs.Legal.{Spared}
 use Rattle.tables.specs.Tables.{Filled}
 use Rattle.moves.specs.Moves.{Held, carried}
 use Rattle.moves.specs.Phases.{budget}

@@ -7,7 +7,7 @@ ghost use Rattle.counting.specs.Checks.{first};
 ghost use Rattle.racks.specs.Racks.{slots};
 ghost use Rattle.racks.specs.Numbers.{tableChecks};
 ghost use Rattle.racks.specs.Job.{racksOf, Sound};
-ghost use Rattle.racks.proofs.LegalTable.{Spared};
+ghost use Rattle.racks.specs.Legal.{Spared};
 ghost use Rattle.tables.specs.Tables.{Filled};
 ghost use Rattle.queues.specs.Queues.{rowsOf};
 ghost use Rattle.moves.specs.Parts.{held, pairsIn};

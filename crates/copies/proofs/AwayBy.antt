@@ -16,7 +16,8 @@ use Rattle.racks.specs.Limits.{FREE}
 use Rattle.racks.specs.Racks.{Rack, slots}
 use Rattle.racks.specs.Table.{dest, free, rackTo, onRack, away}
 use Rattle.racks.specs.Numbers.{someAway}
-use Rattle.racks.proofs.LegalTable.{Legal, legal-dest}
+use Rattle.racks.specs.Legal.{Legal}
+use Rattle.racks.proofs.LegalTable.{legal-dest}
 use Rattle.tables.specs.Tables.{Filled}
 use Rattle.copies.specs.Writes.{awayBy, someAwayBy}
 

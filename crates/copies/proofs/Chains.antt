@@ -14,7 +14,8 @@ use Rattle.counting.proofs.Tests.{by-test, no-way}
 use Rattle.racks.specs.Limits.{FREE}
 use Rattle.racks.specs.Racks.{Rack, slots}
 use Rattle.racks.specs.Table.{dest, free, names}
-use Rattle.racks.proofs.LegalTable.{Legal, legal-dest}
+use Rattle.racks.specs.Legal.{Legal}
+use Rattle.racks.proofs.LegalTable.{legal-dest}
 use Rattle.copies.specs.Copies.{next, source, onward, back, onCycle, head}
 use Rattle.copies.specs.Chains.{Chained}
 use Rattle.copies.proofs.Members.{In, Distinct, last-in, pigeon}

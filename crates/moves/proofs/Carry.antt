@@ -16,7 +16,7 @@ use Rattle.counting.proofs.Every.Pairwise.{end, link}
 use Rattle.racks.specs.Limits.{FREE}
 use Rattle.racks.specs.Racks.{Rack, slots, rackOf}
 use Rattle.racks.specs.Table.{rackTo, aways, owes, names}
-use Rattle.racks.proofs.LegalTable.{Legal}
+use Rattle.racks.specs.Legal.{Legal}
 use Rattle.phases.proofs.Allowed.{Allowed, Apart}
 use Rattle.moves.specs.Moves.{movedPlaces, movedCards, carriedPlaces, carriedCards, between}
 use Rattle.moves.proofs.Blocks.{length-moved-cards}

@@ -1,7 +1,7 @@
 -- The first-fit plan, on racks that each have a spare, is what the laws of phases ask for. Assumes nothing.
 use mathlib.Core.List.{List}
 use Rattle.racks.specs.Racks.{Rack}
-use Rattle.racks.proofs.LegalTable.{Spared}
+use Rattle.racks.specs.Legal.{Spared}
 use Rattle.phases.proofs.Plans.{plan-allowed, plan-apart}
 use Rattle.phases.proofs.Possible.{plan-some}
 use Rattle.moves.proofs.Phases.{Planner, some-away}

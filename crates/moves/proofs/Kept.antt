@@ -10,7 +10,7 @@ use Rattle.counting.specs.Lists.{Pair}
 use Rattle.racks.specs.Limits.{FREE}
 use Rattle.racks.specs.Racks.{Rack, slots}
 use Rattle.racks.specs.Table.{dest, free}
-use Rattle.racks.proofs.LegalTable.{Legal}
+use Rattle.racks.specs.Legal.{Legal}
 use Rattle.moves.specs.Blocks.{block}
 use Rattle.moves.specs.Moves.{movedPlaces, movedCards, carriedPlaces, carriedCards}
 use Rattle.moves.proofs.Pairs.{ToFree, free-ends}

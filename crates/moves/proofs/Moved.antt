@@ -18,7 +18,7 @@ use Rattle.counting.proofs.Count.{count-cong, count-change, count-move}
 use Rattle.racks.specs.Limits.{FREE}
 use Rattle.racks.specs.Racks.{Rack, slots, rackOf}
 use Rattle.racks.specs.Table.{dest, free, rackTo, onRack, away, aways, awayTo, bound, owes, names}
-use Rattle.racks.proofs.LegalTable.{Legal}
+use Rattle.racks.specs.Legal.{Legal}
 use Rattle.racks.proofs.Away.{away-held, away-off}
 use Rattle.phases.proofs.Allowed.{Allowed, Apart}
 use Rattle.moves.specs.Moves.{movedPlaces}

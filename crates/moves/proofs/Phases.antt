@@ -16,7 +16,7 @@ use Rattle.counting.proofs.Every.All.{more, none}
 use Rattle.racks.specs.Racks.{Rack, slots}
 use Rattle.racks.specs.Table.{away, aways}
 use Rattle.racks.specs.Numbers.{someAway}
-use Rattle.racks.proofs.LegalTable.{Legal}
+use Rattle.racks.specs.Legal.{Legal}
 use Rattle.phases.specs.Plan.{plan}
 use Rattle.phases.proofs.Allowed.{Allowed, Apart}
 use Rattle.moves.specs.Moves.{carriedPlaces}

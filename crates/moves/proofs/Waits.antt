@@ -18,7 +18,7 @@ use Rattle.counting.proofs.Lists.{join-more}
 use Rattle.counting.proofs.Members.{among-none, among-append, besides, besides-out, besides-off, besides-cong, besides-more, select-drop}
 use Rattle.racks.specs.Racks.{Rack, slots}
 use Rattle.racks.specs.Table.{awayTo, rackTo}
-use Rattle.racks.proofs.LegalTable.{Legal}
+use Rattle.racks.specs.Legal.{Legal}
 use Rattle.racks.proofs.Away.{to-rack}
 use Rattle.phases.specs.Plan.{plan, planFor, openSlots}
 use Rattle.phases.proofs.Grants.{plan-for-is}

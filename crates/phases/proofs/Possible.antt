@@ -17,7 +17,8 @@ use Rattle.racks.specs.Racks.{Rack, slots, rackOf, spareOf, isUser}
 use Rattle.racks.specs.Table.{dest, free, rackTo, away, awayTo, freeOn}
 use Rattle.racks.specs.Numbers.{someAway}
 use Rattle.racks.proofs.Geometry.{rack-lt}
-use Rattle.racks.proofs.LegalTable.{Legal, Spared, legal-dest, spare-lt, spare-rack, spare-none}
+use Rattle.racks.specs.Legal.{Legal, Spared}
+use Rattle.racks.proofs.LegalTable.{legal-dest, spare-lt, spare-rack, spare-none}
 use Rattle.racks.proofs.Away.{away-held, away-is, to-away, to-rack, to-is, on-is}
 use Rattle.phases.specs.Plan.{plan}
 use Rattle.phases.proofs.Allowed.{Allowed}

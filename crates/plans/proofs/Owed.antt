@@ -17,7 +17,8 @@ use Rattle.racks.specs.Limits.{FREE}
 use Rattle.racks.specs.Racks.{Rack, slots, rackOf}
 use Rattle.racks.specs.Table.{dest, free, rackTo, onRack, away, bound, owes, freeOn}
 use Rattle.racks.proofs.Geometry.{rack-lt}
-use Rattle.racks.proofs.LegalTable.{Legal, legal-dest}
+use Rattle.racks.specs.Legal.{Legal}
+use Rattle.racks.proofs.LegalTable.{legal-dest}
 use Rattle.racks.proofs.Away.{away-held, to-away, to-rack, to-is, on-free, on-rack, on-is, bound-on, bound-off}
 use Rattle.tables.specs.Tables.{Filled}
 use Rattle.phases.specs.Plan.{room}

@@ -10,7 +10,8 @@ use Rattle.counting.proofs.Count.{pigeonhole, count-all, count-none, count-on, 
 use Rattle.racks.specs.Racks.{Rack, users, base, slots, rackOf, spareOf}
 use Rattle.racks.specs.Table.{dest, free, rackTo, awayTo}
 use Rattle.racks.proofs.Geometry.{rack-in, spare-is, spare-end, user-is}
-use Rattle.racks.proofs.LegalTable.{Legal, legal-dest}
+use Rattle.racks.specs.Legal.{Legal}
+use Rattle.racks.proofs.LegalTable.{legal-dest}
 use Rattle.racks.proofs.Away.{away-held, to-away, to-rack}
 
 -- where the queue of rack p ends after the first g slots

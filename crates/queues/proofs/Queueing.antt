@@ -14,7 +14,8 @@ use Rattle.counting.proofs.Select.{select-on, select-off}
 use Rattle.racks.specs.Racks.{Rack, base, slots}
 use Rattle.racks.specs.Table.{dest, free, rackTo, onRack, away, awayTo}
 use Rattle.racks.proofs.Geometry.{base-mono, end-le, rack-lt}
-use Rattle.racks.proofs.LegalTable.{Legal, legal-dest}
+use Rattle.racks.specs.Legal.{Legal}
+use Rattle.racks.proofs.LegalTable.{legal-dest}
 use Rattle.racks.proofs.Away.{away-held, to-away, to-rack, to-is}
 use Rattle.tables.specs.Tables.{Filled}
 use Rattle.queues.specs.Queues.{part}

@@ -1,8 +1,8 @@
 -- A legal table, as the layers above use it: what the checks of a table leave, no more and no less. Assumes nothing.
 use mathlib.Core.Path.{_≡_, ap, sym, _∙_}
-use mathlib.Core.Bool.{true, false, not}
+use mathlib.Core.Bool.{false, not}
 use mathlib.Core.List.{List}
-use Prim.Native.Nat.{ℕ, suc, _<_}
+use Prim.Native.Nat.{ℕ, _<_}
 use native.Mathlib.Omega.{arith}
 use native.Mathlib.Decide.{decLe}
 use lib.ListN.{length}
@@ -12,23 +12,14 @@ use Rattle.counting.proofs.Tests.{by-test, both, no-way, not-off, not-off-is, o
 use Rattle.counting.proofs.Some.{some-hit, some-none, some-off}
 use Rattle.counting.proofs.Checks.{Clear, clear-first, first-off}
 use Rattle.counting.proofs.Checks.Clear.{none, more}
-use Rattle.racks.specs.Racks.{Rack, ofCaps, base, slots, rackOf, spareOf, isUser}
+use Rattle.racks.specs.Racks.{Rack, ofCaps, slots, rackOf, spareOf, isUser}
 use Rattle.racks.specs.Table.{dest, free, names}
+use Rattle.racks.specs.Legal.{Legal, Spared}
 use Rattle.racks.specs.Numbers.{badCount, badSize, badPlaces, badEntry, badEntries, repeats, badTwice, tableChecks}
 use Rattle.racks.specs.Job.{rackChecks}
 use Rattle.racks.proofs.Geometry.{base-suc, end-le, spare-is, rack-is, user-is, user-lt}
 use Rattle.racks.proofs.Caps.{length-caps, users-caps, width-caps}
 use Rattle.racks.proofs.Legal.{legal-long, legal-entry, table-clear}
-
--- S entries, each free or a user slot, and no two the same slot
-pub record Legal (racks : List Rack) (places : List ℕ) : Type 0 where
-  pub long : length places ≡ slots racks
-  pub named : (g : ℕ) → g < slots racks → free places g ≡ false → isUser racks (dest places g) ≡ true
-  pub once : (g h : ℕ) → g < slots racks → h < slots racks → free places g ≡ false → dest places g ≡ dest places h → g ≡ h
-
--- every rack has a spare
-pub record Spared (racks : List Rack) : Type 0 where
-  pub spare : (p : ℕ) → p < length racks → spareOf racks p < base racks (suc p)
 
 -- the first spare of rack p
 module _ (racks : List Rack) (s : Spared racks) (p : ℕ) (l : p < length racks) where

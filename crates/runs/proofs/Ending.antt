@@ -14,7 +14,7 @@ use Rattle.racks.specs.Numbers.{badBytes, cardChecks}
 use Rattle.racks.specs.Answers.{answer, noCounts}
 use Rattle.racks.specs.declared.Answer.{Answer}
 use Rattle.racks.specs.declared.Tally.{Tally}
-use Rattle.racks.proofs.LegalTable.{Legal, Spared}
+use Rattle.racks.specs.Legal.{Legal, Spared}
 use Rattle.moves.specs.Moves.{Held}
 use Rattle.moves.specs.Phases.{phases}
 use Rattle.moves.specs.Parts.{held, outcomeOf}

@@ -13,7 +13,7 @@ use Rattle.counting.proofs.Tests.{by-test, no-way, both, and-l, and-r}
 use Rattle.racks.specs.Racks.{Rack, slots, rackOf}
 use Rattle.racks.specs.Table.{owes}
 use Rattle.racks.proofs.Geometry.{rack-lt}
-use Rattle.racks.proofs.LegalTable.{Legal}
+use Rattle.racks.specs.Legal.{Legal}
 use Rattle.tables.specs.Tables.{Filled}
 use Rattle.phases.proofs.Allowed.{Allowed}
 use Rattle.plans.specs.Owed.{cell, Owed}

@@ -21,7 +21,7 @@ use Rattle.racks.specs.Answers.{noCounts}
 use Rattle.racks.specs.Job.{racksOf}
 use Rattle.racks.specs.declared.Job.{Job}
 use Rattle.racks.specs.declared.Tally.{Tally}
-use Rattle.racks.proofs.LegalTable.{Legal}
+use Rattle.racks.specs.Legal.{Legal}
 use Rattle.phases.specs.Plan.{plan}
 use Rattle.phases.proofs.Plans.{plan-aways}
 use Rattle.plans.specs.Owed.{Owed}

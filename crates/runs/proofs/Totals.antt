@@ -15,7 +15,8 @@ use Rattle.racks.specs.Table.{rackTo, away, aways, awayTo, owes}
 use Rattle.racks.specs.Numbers.{tableChecks}
 use Rattle.racks.proofs.Geometry.{rack-lt}
 use Rattle.racks.proofs.Away.{away-held}
-use Rattle.racks.proofs.LegalTable.{Legal, legal, legal-dest}
+use Rattle.racks.specs.Legal.{Legal}
+use Rattle.racks.proofs.LegalTable.{legal, legal-dest}
 use Rattle.phases.proofs.Grants.{owes-all}
 use Rattle.plans.specs.Owed.{cell, Owed}
 use Rattle.runs.specs.Totals.{column}

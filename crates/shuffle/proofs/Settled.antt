@@ -17,7 +17,7 @@ use Rattle.counting.proofs.Lists.{join-more, getD-table}
 use Rattle.racks.specs.Limits.{FREE}
 use Rattle.racks.specs.Racks.{Rack, slots}
 use Rattle.racks.specs.Table.{dest, names}
-use Rattle.racks.proofs.LegalTable.{Legal}
+use Rattle.racks.specs.Legal.{Legal}
 use Rattle.moves.specs.Blocks.{block, blank}
 use Rattle.moves.specs.Moves.{Held}
 use Rattle.moves.proofs.Blocks.{length-block, length-blank}

@@ -3,7 +3,8 @@ use Rattle.counting.specs.Checks.{first}
 use Rattle.racks.specs.Racks.{ofCaps}
 use Rattle.racks.specs.Numbers.{cardChecks}
 use Rattle.racks.specs.Answers.{answer}
-use Rattle.racks.proofs.LegalTable.{Spared, spared-caps}
+use Rattle.racks.specs.Legal.{Spared}
+use Rattle.racks.proofs.LegalTable.{spared-caps}
 use Rattle.tables.proofs.Tables.{Open, of-sound, of-cards, open-cards, open-long}
 use Rattle.moves.specs.Parts.{held}
 use Rattle.budgets.proofs.Budgeted.{made-caps, budgeted-refused, budgeted-done}

@@ -2,7 +2,8 @@ use mathlib.Core.Path.{_≡_, sym, subst, _∙_}
 use Rattle.counting.specs.Checks.{first}
 use Rattle.racks.specs.Racks.{ofCaps}
 use Rattle.racks.specs.Numbers.{cardChecks}
-use Rattle.racks.proofs.LegalTable.{Spared, spared-caps}
+use Rattle.racks.specs.Legal.{Spared}
+use Rattle.racks.proofs.LegalTable.{spared-caps}
 use Rattle.tables.proofs.Tables.{Open, of-sound, of-cards, open-cards, open-long, accepted}
 use Rattle.moves.specs.Parts.{held}
 use Rattle.runs.proofs.Ending.{bytes-small, ran-caps, ran-refused, ran-done}
