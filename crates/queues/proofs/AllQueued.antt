@@ -14,12 +14,13 @@ use Rattle.racks.proofs.Geometry.{base-mono, end-le}
 use Rattle.racks.proofs.Jobs.{sound-few, sound-ends}
 use Rattle.racks.proofs.LegalTable.{legal}
 use Rattle.tables.specs.Tables.{Filled}
+use Rattle.phases.specs.Plan.{room}
 use Rattle.queues.specs.Queues.{rowsOf}
 use Rattle.queues.specs.Queued.{Firsts}
 use Rattle.queues.specs.Ready.{Ready}
 use Rattle.queues.proofs.Fits.{tailAt, tail-up, tail-in}
 use Rattle.queues.proofs.OpenSlots.{opens-are}
-use Rattle.queues.proofs.Queueing.{Tabled, Queueing}
+use Rattle.queues.proofs.Queueing.{Tabled, Queueing, RoomsTo}
 
 -- the list has where each rack ends
 pub record Lasts (racks : List Rack) (list : List ℕ) : Type 0 where
@@ -40,9 +41,10 @@ module _ (racks : List Rack) (places table : List ℕ) (t : Tabled racks places 
   tail-small p l = omega (arith, tail-in racks places p (t .legal) (slots racks) (omega arith), end-le racks p l, t .small)
 
   -- the rows after all slots
-  pub queues-ready : (queue first tails last : List ℕ) → Firsts racks first → Queueing racks places (slots racks) queue tails → Lasts racks last
-      → Ready racks places (rowsOf queue first tails first last)
-  queues-ready queue first tails last f q e =
+  pub queues-ready : (queue first tails rooms last : List ℕ) → Firsts racks first → Queueing racks places (slots racks) queue tails
+      → RoomsTo racks places (slots racks) rooms → Lasts racks last → Ready racks places (rowsOf queue first tails first rooms last)
+  unfolding room
+  queues-ready queue first tails rooms last f q c e =
       record {
         bounded =
             record {
@@ -52,6 +54,7 @@ module _ (racks : List Rack) (places table : List ℕ) (t : Tabled racks places 
               heads-long = f .long;
               tails-long = q .tails-long;
               lows-long = f .long;
+              rooms-long = c .long;
               ends-long = e .long;
               queued = λ p l. omega (arith, f .slots-are p l, q .tails-are p l, tail-up racks places p (slots racks));
               within = λ p l. omega (arith, q .tails-are p l, tail-small p l);
@@ -61,6 +64,7 @@ module _ (racks : List Rack) (places table : List ℕ) (t : Tabled racks places 
         waits = λ p l. rw (f .slots-are p l, q .tails-are p l) (q .waits p l);
         open-slots = λ p l. rw (f .slots-are p l, e .slots-are p l)
             (opens-are racks places p l (base racks p) (omega arith) (base-mono racks p (suc p) (omega arith)) (λ g m m′. absurd (omega arith)));
+        rooms-are = c .counts;
         from-base = λ p l. omega (arith, f .slots-are p l);
         ends-are = e .slots-are;
       }

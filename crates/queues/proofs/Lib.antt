@@ -1,3 +1,4 @@
+pub mod Counts
 pub mod Stretch
 pub mod Fits
 pub mod OpenSlots

@@ -6,15 +6,16 @@ use Prim.Native.Nat.{ℕ, _+_, _≤_, _<_}
 use native.Mathlib.Omega.{arith}
 use native.Mathlib.Numerals.{add-one}
 use native.Mathlib.Decide.{ℕ-discrete, decLt}
-use lib.ListN.{getD}
+use lib.ListN.{length, getD}
 use borrow.Author.Tests.{le-leb, lt-leb, eq-eqb, ne-eqb}
 use Rattle.counting.specs.Tests.{_and_}
 use Rattle.counting.specs.Count.{select}
 use Rattle.counting.proofs.Tests.{and-off-l}
-use Rattle.counting.proofs.Select.{select-cong, select-none, select-split}
+use Rattle.counting.proofs.Count.{count-le}
+use Rattle.counting.proofs.Select.{select-cong, select-none, select-split, length-select}
 use Rattle.racks.specs.Limits.{FREE}
 use Rattle.racks.specs.Table.{free}
-use Rattle.queues.specs.Queues.{openFrom, opens, NextOpen}
+use Rattle.queues.specs.Queues.{openFrom, opens, Raised, NextOpen}
 
 module _ (places : List ℕ) where
   -- an entry of FREE: the slot is free
@@ -47,6 +48,11 @@ module _ (places : List ℕ) where
   unfolding opens
   open-end low high h = select-none high (openFrom places low) (λ g l. from-below low g (omega arith))
 
+  -- no more than there are slots
+  pub open-few : (low high : ℕ) → length (opens places low high) ≤ high
+  unfolding opens
+  open-few low high = omega (arith, length-select high (openFrom places low), count-le high (openFrom places low))
+
   -- a slot that is not free: one slot further
   pub open-skip : (low high : ℕ) → free places low ≡ false → opens places low high ≡ opens places (low + 1) high
   unfolding opens
@@ -71,26 +77,20 @@ module _ (places : List ℕ) where
       only : select (low + 1) (openFrom places low) ≡ low ∷ []
       only = rw (add-one low, from-here low, f, select-none low (openFrom places low) (from-below low))
 
--- the search for the first free slot came from low to g
-pub record Sought (places : List ℕ) (low high g : ℕ) : Type 0 where
-  pub up : low ≤ g
-  pub within : g ≤ high
-  pub same : opens places low high ≡ opens places g high
-
 module _ {places : List ℕ} {low high : ℕ} where
-  -- the search begins
-  pub sought-none : low ≤ high → Sought places low high low
-  sought-none l = record { up = omega arith; within = l; same = refl }
+  -- a mark that stays; so does a search begin
+  pub raised-none : low ≤ high → Raised places low high low
+  raised-none l = record { up = omega arith; within = l; same = refl }
 
-  module _ {g : ℕ} (s : Sought places low high g) where
+  module _ {g : ℕ} (s : Raised places low high g) where
     -- a slot that is not free: the search goes on
-    pub sought-more : g < high → (getD places g 0 ≡ FREE → ⊥) → Sought places low high (g + 1)
-    sought-more l f = record { up = omega (arith, s .up); within = omega arith; same = s .same ∙ open-skip places g high (free-off places g f) }
+    pub raised-more : g < high → (getD places g 0 ≡ FREE → ⊥) → Raised places low high (g + 1)
+    raised-more l f = record { up = omega (arith, s .up); within = omega arith; same = s .same ∙ open-skip places g high (free-off places g f) }
 
     -- a free slot is found
-    pub sought-found : getD places g 0 ≡ FREE → NextOpen places low high g
-    sought-found f = record { up = s .up; within = s .within; same = s .same; hit = λ _. free-on places g f }
+    pub raised-found : getD places g 0 ≡ FREE → NextOpen places low high g
+    raised-found f = record { raised = s; hit = λ _. free-on places g f }
 
     -- the rack has no more slots
-    pub sought-end : high ≤ g → NextOpen places low high g
-    sought-end h = record { up = s .up; within = s .within; same = s .same; hit = λ l. absurd (omega arith) }
+    pub raised-end : high ≤ g → NextOpen places low high g
+    raised-end h = record { raised = s; hit = λ l. absurd (omega arith) }

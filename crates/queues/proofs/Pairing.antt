@@ -1,15 +1,16 @@
 -- Laws of writing the pairs of one target: what one pair more does to the list, and when all are written. Assumes nothing.
 use mathlib.Core.Path.{_≡_, refl, _∙_}
 use mathlib.Core.List.{List, [], _∷_}
-use Prim.Native.Nat.{ℕ, _+_, _*_, _-_, _≤_, _<_}
+use Prim.Native.Nat.{ℕ, _+_, _*_, _-_, _≤_, _<_, min}
 use native.Mathlib.Omega.{arith}
 use native.Mathlib.Numerals.{add-one}
 use lib.ListN.{length, getD, set, length-set}
 use lib.Seq.{sets, slice-empty, slice-cons, length-slice}
 use Rattle.counting.specs.Lists.{pairUp, flat}
-use Rattle.counting.proofs.Pairs.{length-pairUp, pairUp-nil}
+use Rattle.counting.proofs.Pairs.{length-pairUp, pairUp-take, pairUp-nil}
 use Rattle.counting.proofs.Stores.{sets-flat-none, sets-flat-more}
-use Rattle.queues.specs.Queues.{opens, part, served, NextOpen, Written}
+use Rattle.queues.specs.Queues.{opens, part, served, Raised, NextOpen, Written}
+use Rattle.queues.proofs.Stretch.{part-cut}
 use Rattle.queues.proofs.Opens.{open-end, open-take}
 
 module _ (places queue : List ℕ) (tail high : ℕ) where
@@ -28,12 +29,18 @@ module _ (places queue : List ℕ) (tail high : ℕ) where
       → served places queue head tail low high ≡ (getD queue head 0, t) ∷ served places queue (head + 1) tail (t + 1) high
   unfolding served part pairUp
   served-more head low t l q o m =
-      rw (o .same, open-take places t high m (o .hit m), slice-cons head tail queue 0 l q, add-one head)
+      rw (o .raised .same, open-take places t high m (o .hit m), slice-cons head tail queue 0 l q, add-one head)
 
-  -- a mark that went up to the first free slot changes no pair
-  pub served-same : (head low t : ℕ) → NextOpen places low high t → served places queue head tail low high ≡ served places queue head tail t high
+  -- a mark that passed no free slot changes no pair
+  pub served-same : (head low t : ℕ) → Raised places low high t → served places queue head tail low high ≡ served places queue head tail t high
   unfolding served
   served-same head low t o = rw (o .same)
+
+  -- of the cards that wait no more are served than slots are free
+  pub served-cut : (head low r : ℕ) → tail ≤ length queue → r ≡ length (opens places low high)
+      → served places queue head (min tail (head + r)) low high ≡ served places queue head tail low high
+  unfolding served
+  served-cut head low r q e = rw (part-cut queue head tail r q, e) (pairUp-take (part queue head tail) (opens places low high))
 
   -- no more pairs than cards that wait
   pub served-le : (head low : ℕ) → head ≤ tail → tail ≤ length queue → head + length (served places queue head tail low high) ≤ tail
@@ -72,12 +79,12 @@ module _ {places queue : List ℕ} {head tail low high : ℕ} {before : List ℕ
     module _ (m : h < tail) (q : tail ≤ length queue) {u : ℕ} (o : NextOpen places t high u) where
       -- no slot is free any more
       pub left-full : u ≡ high → Written (served places queue head tail low high) before at after (h - head)
-      left-full e = left-none (served-full places queue tail high h t (o .same ∙ open-end places u high (omega arith)))
+      left-full e = left-none (served-full places queue tail high h t (o .raised .same ∙ open-end places u high (omega arith)))
 
       module _ (d : u ≡ high → ⊥) where
         -- the slot found is one of the rack
         inside : u < high
-        inside = omega (arith, o .within)
+        inside = omega (arith, o .raised .within)
 
         -- the list has room for one pair more
         pub left-room : k + 2 ≤ at + 2 * length (served places queue head tail low high)

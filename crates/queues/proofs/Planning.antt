@@ -1,7 +1,7 @@
 -- Laws of planning a phase rack by rack: what one rack more does to the pairs, the queues and the marks. Assumes nothing.
 use mathlib.Core.Path.{_≡_, refl, sym, ap, _∙_}
 use mathlib.Core.List.{List, [], _++_}
-use Prim.Native.Nat.{ℕ, _+_, _*_, _≤_, _<_}
+use Prim.Native.Nat.{ℕ, _+_, _*_, _≤_, _<_, min}
 use native.Mathlib.Omega.{arith}
 use native.Mathlib.Numerals.{add-one}
 use native.Mathlib.Decide.{ℕ-discrete}
@@ -11,8 +11,9 @@ use Rattle.counting.specs.Lists.{table, join, flat}
 use Rattle.counting.proofs.Select.{sum-mono, sum-more}
 use Rattle.counting.proofs.Lists.{join-more, length-join}
 use Rattle.counting.proofs.Stores.{sets-flat-none, sets-flat-append}
-use Rattle.queues.specs.Queues.{Rows, pairsFor, queuedPlan, served, Bounded, NextOpen, Written, PhasePlanned}
-use Rattle.queues.proofs.Pairing.{served-same, served-le}
+use Rattle.queues.specs.Queues.{Rows, pairsFor, queuedPlan, served, Bounded, Roomed, Raised, Written, PhasePlanned}
+use Rattle.queues.proofs.Opens.{open-few}
+use Rattle.queues.proofs.Pairing.{served-same, served-cut, served-le}
 
 module _ (rows : Rows) (places : List ℕ) where
   -- the plan of no racks
@@ -53,6 +54,7 @@ pub record Inside (p : ℕ) (rows : Rows) (places after : List ℕ) (count : ℕ
   pub low : getD lows p 0 ≤ getD (rows .ends) p 0
   pub high : getD (rows .ends) p 0 ≤ length places
   pub small : length places ≤ 4096
+  pub roomy : getD (rows .rooms) p 0 ≤ 4096
   pub room : 2 * count + 2 * length (pairsFor rows places p) ≤ length after
 
 -- no rack is planned yet
@@ -72,7 +74,7 @@ planned-none n rows places before b =
       lows-rest = λ q l. refl;
     }
 
-module _ {n p : ℕ} {rows : Rows} {places before after : List ℕ} {count : ℕ} {heads lows : List ℕ} (b : Bounded n (length places) rows) (s : Planned n p rows places before after count heads lows) where
+module _ {n p : ℕ} {rows : Rows} {places before after : List ℕ} {count : ℕ} {heads lows : List ℕ} (b : Bounded n (length places) rows) (c : Roomed n rows places) (s : Planned n p rows places before after count heads lows) where
   -- the list is as long as it was
   pub planned-long : length after ≡ length before
   planned-long = ap length (s .done .list) ∙ length-sets before 0 (flat (queuedPlan p rows places))
@@ -92,19 +94,26 @@ module _ {n p : ℕ} {rows : Rows} {places before after : List ℕ} {count : ℕ
           low = rw (s .lows-rest p (omega arith)) (b .marked p m);
           high = b .ended p m;
           small = b .small;
+          roomy = omega (arith, c p m, open-few places (getD (rows .lows) p 0) (getD (rows .ends) p 0), b .ended p m, b .small);
           room = omega (arith, s .done .count-is, planned-long, queued-le rows places n p m);
         }
 
-    module _ {low : ℕ} (o : NextOpen places (getD lows p 0) (getD (rows .ends) p 0) low) where
+    -- its queue cut where its free slots end, and its mark
+    module _ {tail low : ℕ} (k : tail ≡ min (getD (rows .tails) p 0) (getD heads p 0 + getD (rows .rooms) p 0)) (o : Raised places (getD lows p 0) (getD (rows .ends) p 0) low) where
       -- the pairs of the next rack are those of its queue and its mark at the start
-      pub next-pairs : served places (rows .queue) (getD heads p 0) (getD (rows .tails) p 0) low (getD (rows .ends) p 0) ≡ pairsFor rows places p
+      pub next-pairs : served places (rows .queue) (getD heads p 0) tail low (getD (rows .ends) p 0) ≡ pairsFor rows places p
       unfolding pairsFor
       next-pairs =
-          sym (served-same places (rows .queue) (getD (rows .tails) p 0) (getD (rows .ends) p 0) (getD heads p 0) (getD lows p 0) low o)
-          ∙ rw (s .heads-rest p (omega arith), s .lows-rest p (omega arith))
+          sym (served-same places (rows .queue) tail (getD (rows .ends) p 0) (getD heads p 0) (getD lows p 0) low o)
+          ∙ rw (k, s .heads-rest p (omega arith), s .lows-rest p (omega arith))
+          (served-cut places (rows .queue) (getD (rows .tails) p 0) (getD (rows .ends) p 0) (getD (rows .heads) p 0) (getD (rows .lows) p 0) (getD (rows .rooms) p 0) (omega (arith, b .within p m, b .queue-long)) (c p m))
+
+      -- the cut queue begins before it ends, and ends no later
+      pub next-cut : (getD heads p 0 ≤ tail) × (tail ≤ getD (rows .tails) p 0)
+      next-cut = let h = b .queued p m in omega (arith, s .heads-rest p (omega arith))
 
       module _ {after′ : List ℕ} {made : ℕ}
-          (w : Written (served places (rows .queue) (getD heads p 0) (getD (rows .tails) p 0) low (getD (rows .ends) p 0)) after (2 * count) after′ made) where
+          (w : Written (served places (rows .queue) (getD heads p 0) tail low (getD (rows .ends) p 0)) after (2 * count) after′ made) where
         -- as many are written
         pub next-made : made ≡ length (pairsFor rows places p)
         next-made = w .count-is ∙ ap length next-pairs
@@ -115,7 +124,8 @@ module _ {n p : ℕ} {rows : Rows} {places before after : List ℕ} {count : ℕ
             omega (
               arith,
               w .count-is,
-              served-le places (rows .queue) (getD (rows .tails) p 0) (getD (rows .ends) p 0) (getD heads p 0) low (rw (s .heads-rest p (omega arith)) (b .queued p m)) (omega (arith, b .within p m, b .queue-long)),
+              next-cut .1,
+              served-le places (rows .queue) tail (getD (rows .ends) p 0) (getD heads p 0) low (next-cut .0) (omega (arith, next-cut .1, b .within p m, b .queue-long)),
             )
 
         -- the next rack is planned
@@ -143,7 +153,7 @@ module _ {n p : ℕ} {rows : Rows} {places before after : List ℕ} {count : ℕ
               | no e ↦ getD-set-other heads p q (getD heads p 0 + made) 0 e ∙ s .done .heads-are q (omega arith)
             ]
 
-            lows-are : (q : ℕ) → q < p + 1 → NextOpen places (getD (rows .lows) q 0) (getD (rows .ends) q 0) (getD (set lows p low) q 0)
+            lows-are : (q : ℕ) → q < p + 1 → Raised places (getD (rows .lows) q 0) (getD (rows .ends) q 0) (getD (set lows p low) q 0)
             lows-are q l = elim (ℕ-discrete q p) [
               | yes e ↦
                   rw (e, getD-set-same lows p low 0 (omega (arith, b .few, s .done .lows-long)))

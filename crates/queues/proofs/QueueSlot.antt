@@ -4,12 +4,13 @@ use mathlib.Core.Bool.{true, false, not}
 use mathlib.Core.Logic.{_≢_}
 use mathlib.Core.List.{List}
 use Prim.Native.Nat.{ℕ, _+_, _<_}
+use lib.Dec.{eqb}
 use lib.ListN.{getD, set}
 use borrow.Author.Tests.{eq-eqb, ne-eqb}
 use Rattle.counting.proofs.Tests.{both, and-off-l, and-off-r, not-off}
 use Rattle.racks.specs.Limits.{FREE}
 use Rattle.racks.specs.Table.{dest, free}
-use Rattle.queues.specs.Queued.{target, sends, queued, tailed, Queueable, Queued}
+use Rattle.queues.specs.Queued.{target, sends, queued, tailed, oneMore, roomsWith, Queueable, Queued}
 
 module _ (table places : List ℕ) (g : ℕ) where
   -- a slot with a card is not free
@@ -23,7 +24,7 @@ module _ (table places : List ℕ) (g : ℕ) where
   slot-sends d e = both (not-off (held d)) (not-off (ne-eqb _ _ e))
 
   -- a slot that can be queued and has a card: what the code may read and write
-  module _ (tails : List ℕ) (q : Queueable table places g tails) (d : dest places g ≢ FREE) where
+  module _ (tails rooms : List ℕ) (q : Queueable table places g tails rooms) (d : dest places g ≢ FREE) where
     -- the table at its card's destination
     pub slot-named : dest places g < 4096
     slot-named = q .named (held d)
@@ -38,26 +39,27 @@ module _ (table places : List ℕ) (g : ℕ) where
     unfolding target
     slot-fits e = q .fits (slot-sends d e)
 
-  -- what it does to the queues and their tails
-  module _ (queue tails : List ℕ) where
-    -- no card is away from slot g: nothing changes
-    queued-off : sends table places g ≡ false → Queued table places g queue tails queue tails
-    unfolding queued tailed
-    queued-off s = record { queue-is = rw s; tails-are = rw s }
+  -- what it does to the queues, their tails and the counts of free slots
+  module _ (queue tails rooms : List ℕ) where
+    -- the slot is free: it is counted
+    pub queued-free : dest places g ≡ FREE → Queued table places g queue tails rooms queue tails (set rooms (getD table g 0) (getD rooms (getD table g 0) 0 + 1))
+    unfolding queued tailed sends free roomsWith oneMore
+    queued-free e =
+        let f = eq-eqb (dest places g) FREE e in
+        let s = and-off-l (not (eqb (getD table g 0) (target table places g))) (ap not f) in
+        record { queue-is = rw s; tails-are = rw s; rooms-are = rw f }
 
-    -- the slot is free
-    pub queued-free : dest places g ≡ FREE → Queued table places g queue tails queue tails
-    unfolding sends free
-    queued-free e = queued-off (and-off-l _ (ap not (eq-eqb (dest places g) FREE e)))
+    module _ (d : dest places g ≢ FREE) where
+      -- its card is on its rack: nothing changes
+      pub queued-home : getD table g 0 ≡ getD table (dest places g) 0 → Queued table places g queue tails rooms queue tails rooms
+      unfolding queued tailed sends target roomsWith
+      queued-home e =
+          let s = and-off-r (not (free places g)) (ap not (eq-eqb _ _ e)) in
+          record { queue-is = rw s; tails-are = rw s; rooms-are = rw (held d) }
 
-    -- its card is on its rack
-    pub queued-home : getD table g 0 ≡ getD table (dest places g) 0 → Queued table places g queue tails queue tails
-    unfolding sends target
-    queued-home e = queued-off (and-off-r _ (ap not (eq-eqb _ _ e)))
-
-    -- its card is away
-    pub queued-away : dest places g ≢ FREE → getD table g 0 ≢ getD table (dest places g) 0
-        → Queued table places g queue tails (set queue (getD tails (getD table (dest places g) 0) 0) g)
-        (set tails (getD table (dest places g) 0) (getD tails (getD table (dest places g) 0) 0 + 1))
-    unfolding queued tailed target
-    queued-away d e = record { queue-is = rw (slot-sends d e); tails-are = rw (slot-sends d e) }
+      -- its card is away
+      pub queued-away : getD table g 0 ≢ getD table (dest places g) 0
+          → Queued table places g queue tails rooms (set queue (getD tails (getD table (dest places g) 0) 0) g)
+          (set tails (getD table (dest places g) 0) (getD tails (getD table (dest places g) 0) 0 + 1)) rooms
+      unfolding queued tailed target roomsWith
+      queued-away e = record { queue-is = rw (slot-sends d e); tails-are = rw (slot-sends d e); rooms-are = rw (held d) }

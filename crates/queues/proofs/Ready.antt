@@ -1,13 +1,16 @@
 -- Rows that fit the table give the plan of the phase. Assumes nothing.
-use mathlib.Core.Path.{_≡_, ap, _∙_}
+use mathlib.Core.Path.{_≡_, ap, sym, _∙_}
 use mathlib.Core.List.{List, []}
 use Prim.Native.Nat.{ℕ, _<_}
+use native.Mathlib.Omega.{arith}
 use lib.ListN.{length}
 use Rattle.counting.specs.Lists.{table, join}
+use Rattle.counting.proofs.Select.{length-select}
 use Rattle.counting.proofs.Lists.{length-table, getD-table, table-is}
 use Rattle.racks.specs.Racks.{Rack, slots}
-use Rattle.phases.specs.Plan.{planFor, plan}
-use Rattle.queues.specs.Queues.{Rows, Bounded, PhasePlanned, Written, served, pairsFor, queuedPlan}
+use Rattle.racks.specs.Table.{freeOn}
+use Rattle.phases.specs.Plan.{openSlots, room, planFor, plan}
+use Rattle.queues.specs.Queues.{Rows, Bounded, Roomed, PhasePlanned, Written, served, pairsFor, queuedPlan}
 use Rattle.queues.specs.Ready.{Ready}
 use Rattle.phases.proofs.Grants.{plan-for-is}
 
@@ -27,6 +30,13 @@ module _ (racks : List Rack) (places : List ℕ) (rows : Rows) (r : Ready racks 
 module _ (racks : List Rack) (places : List ℕ) (rows : Rows) (r : Ready racks places rows) (n : ℕ) (en : n ≡ length racks) where
   pub ready-bounded : length places ≡ slots racks → Bounded n (length places) rows
   ready-bounded el = rw (en, el) (r .bounded)
+
+  -- each rack's free slots from its mark on are counted
+  pub ready-roomed : Roomed n rows places
+  unfolding room openSlots
+  ready-roomed p l =
+      let m : p < length racks = omega arith in
+      r .rooms-are p ∙ sym (ap length (r .open-slots p m) ∙ length-select (slots racks) (freeOn racks places p))
 
   pub ready-count : queuedPlan n rows places ≡ plan racks places
   ready-count = rw en (ready-plan racks places rows r)

@@ -1,4 +1,4 @@
--- The pass that fills the queues, a slot at a time, as the code makes it. Assumes nothing: these are definitions.
+-- The pass that fills the queues and counts free slots, a slot at a time, as the code makes it. Assumes nothing: these are definitions.
 use mathlib.Core.Path.{_≡_}
 use mathlib.Core.Bool.{Bool, true, false, not}
 use mathlib.Core.List.{List}
@@ -32,15 +32,26 @@ tailed table places g tails =
     let p = target table places g in
     pick (sends table places g) (set tails p (getD tails p 0 + 1)) tails
 
--- slot g can be queued: it and its card's destination are slots, the table has a rack there, and that rack's queue has room
-pub record Queueable (table places : List ℕ) (g : ℕ) (tails : List ℕ) : Type 0 where
+-- one more at k
+unfoldable pub oneMore : List ℕ → ℕ → List ℕ
+oneMore counts k = set counts k (getD counts k 0 + 1)
+
+-- the free slots of each rack with slot g counted: a free slot adds one
+unfoldable pub roomsWith : List ℕ → List ℕ → ℕ → List ℕ → List ℕ
+roomsWith places table g rooms = pick (free places g) (oneMore rooms (getD table g 0)) rooms
+
+-- slot g can be queued or counted: it and its card's destination are slots, the table has racks there, its card's queue and its rack's count have room
+pub record Queueable (table places : List ℕ) (g : ℕ) (tails rooms : List ℕ) : Type 0 where
   pub slot : g < length places
   pub small : g < 4096
+  pub rack : getD table g 0 < 64
+  pub rooms-fit : getD rooms (getD table g 0) 0 < 65535
   pub named : free places g ≡ false → dest places g < 4096
   pub racked : free places g ≡ false → target table places g < 64
   pub fits : sends table places g ≡ true → getD tails (target table places g) 0 < 4096
 
--- what slot g does to the queues and their tails
-pub record Queued (table places : List ℕ) (g : ℕ) (queue tails queue′ tails′ : List ℕ) : Type 0 where
+-- what slot g does to the queues, their tails and the counts of free slots
+pub record Queued (table places : List ℕ) (g : ℕ) (queue tails rooms queue′ tails′ rooms′ : List ℕ) : Type 0 where
   pub queue-is : queue′ ≡ queued table places g queue tails
   pub tails-are : tails′ ≡ tailed table places g tails
+  pub rooms-are : rooms′ ≡ roomsWith places table g rooms

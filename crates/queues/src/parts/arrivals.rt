@@ -1,4 +1,5 @@
-// The queues of arrivals: for each rack, the slots of the cards away to it, ascending, in its own stretch of one list.
+// The queues of arrivals: for each rack, the slots of the cards away to it, ascending, in its own stretch of one list; and how many free
+// slots it has.
 ghost use mathlib.Core.Path.{_≡_};
 ghost use Rattle.counting.specs.Checks.{first};
 ghost use Rattle.racks.specs.Numbers.{tableChecks};
@@ -26,19 +27,22 @@ fn first_slots(job: Job) -> [u16; 64]
     list
 }
 
-// One slot of the pass: where its card is away, the slot goes to the tail of its card's queue.
+// One slot of the pass: a free slot is counted for its rack; where its card is away, the slot goes to the tail of its card's queue.
 fn queue_slot(
     places: &[u16],
     table: &[u8; 4096],
     g: usize,
     queue: &mut [u16; 4096],
     tails: &mut [u16; 64],
+    rooms: &mut [u16; 64],
 )
-    requires { ⌜ Queueable (now table) (now places) g (now tails) ⌝ }
-    ensures { λ _. ⌜ Queued (now (table .entry)) (now (places .entry)) g (now (queue .entry)) (now (tails .entry)) (now (queue .exit)) (now (tails .exit)) ⌝ }
+    requires { ⌜ Queueable (now table) (now places) g (now tails) (now rooms) ⌝ }
+    ensures { λ _. ⌜ Queued (now (table .entry)) (now (places .entry)) g (now (queue .entry)) (now (tails .entry)) (now (rooms .entry)) (now (queue .exit)) (now (tails .exit)) (now (rooms .exit)) ⌝ }
 {
     let x = places[g];
     if x == Job::FREE {
+        let here = table[g] as usize;
+        rooms[here] = rooms[here] + 1;
         return;
     }
     let there = table[x as usize];
@@ -51,7 +55,7 @@ fn queue_slot(
     tails[p] = tail + 1;
 }
 
-// The queues and marks of a legal table: every rack's cards wait in its queue, and its mark is its first slot.
+// The queues and marks of a legal table: every rack's cards wait in its queue, its mark is its first slot, and its free slots are counted.
 pub fn queue_up(
     job: Job,
     places: &[u16],
@@ -60,10 +64,11 @@ pub fn queue_up(
     heads: &mut [u16; 64],
     tails: &mut [u16; 64],
     lows: &mut [u16; 64],
+    rooms: &mut [u16; 64],
     ends: &mut [u16; 64],
 )
     requires { ⌜ Sound job × Filled (racksOf job) (now table) × (first (tableChecks (racksOf job) (now places)) ≡ 0) ⌝ }
-    ensures { λ _. ⌜ Ready (racksOf job) (now (places .entry)) (rowsOf (now (queue .exit)) (now (heads .exit)) (now (tails .exit)) (now (lows .exit)) (now (ends .exit))) ⌝ }
+    ensures { λ _. ⌜ Ready (racksOf job) (now (places .entry)) (rowsOf (now (queue .exit)) (now (heads .exit)) (now (tails .exit)) (now (lows .exit)) (now (rooms .exit)) (now (ends .exit))) ⌝ }
 {
     let first = first_slots(job);
     let last = job.ends;
@@ -71,10 +76,11 @@ pub fn queue_up(
     *heads = first;
     *tails = first;
     *lows = first;
+    *rooms = [0; 64];
     *ends = last;
     let mut g: usize = 0;
     while g < job.slots {
-        queue_slot(places, table, g, queue, tails);
+        queue_slot(places, table, g, queue, tails, rooms);
         g = g + 1;
     }
 }

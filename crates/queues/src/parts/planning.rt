@@ -1,9 +1,19 @@
 // The pairs of a phase, from the queues: each rack's waiting cards take its free slots from the lowest up.
 ghost use mathlib.Core.Path.{_≡_};
-ghost use Prim.Native.Nat.{ℕ, _+_, _*_, _≤_, _<_};
+ghost use Prim.Native.Nat.{ℕ, _+_, _*_, _≤_, _<_, min};
 ghost use lib.ListN.{length};
-ghost use Rattle.queues.specs.Queues.{served, rowsOf, queuedPlan, Bounded, NextOpen, Written, PhasePlanned};
+ghost use Rattle.queues.specs.Queues.{served, rowsOf, queuedPlan, Bounded, Roomed, Raised, NextOpen, Written, PhasePlanned};
 use racks::Job;
+
+// The smaller of two numbers.
+pub fn smaller(x: usize, y: usize) -> usize
+    ensures { λ r. ⌜ r ≡ min x y ⌝ }
+{
+    if x < y {
+        return x;
+    }
+    y
+}
 
 // The first free slot from `low` on, or `high` where there is none.
 pub fn next_open(places: &[u16], low: usize, high: usize) -> usize
@@ -18,6 +28,17 @@ pub fn next_open(places: &[u16], low: usize, high: usize) -> usize
         g = g + 1;
     }
     g
+}
+
+// A rack's mark for a phase: it goes up to the first free slot where the rack takes a card, else it is not worth a search.
+fn raise_mark(places: &[u16], low: usize, high: usize, takes: bool) -> usize
+    requires { ⌜ (low ≤ high) × (high ≤ length (now places)) ⌝ }
+    ensures { λ r. ⌜ Raised (now (places .entry)) low high r ⌝ }
+{
+    if takes {
+        return next_open(places, low, high);
+    }
+    low
 }
 
 // Writes the pairs of one target from `at` on, two numbers each, and says how many they are.
@@ -52,8 +73,8 @@ pub fn plan_rack(
     h - head
 }
 
-// Plans a phase of n racks: its pairs from the front of the list, by target rack, and how many they are. Each queue then begins behind
-// the cards that it sends, and each mark goes up to the rack's first free slot.
+// Plans a phase of n racks: its pairs from the front of the list, by target rack, and how many they are. A rack takes no more cards than it
+// has free slots, so it is searched no further than the last slot that it fills. Each queue then begins behind the cards that it sends.
 pub fn plan_phase(
     n: usize,
     places: &[u16],
@@ -61,30 +82,24 @@ pub fn plan_phase(
     heads: &mut [u16; 64],
     tails: &[u16; 64],
     lows: &mut [u16; 64],
+    rooms: &[u16; 64],
     ends: &[u16; 64],
     pairs: &mut [u16],
 ) -> usize
-    requires { ⌜ Bounded n (length (now places)) (rowsOf (now queue) (now heads) (now tails) (now lows) (now ends)) ⌝ }
-    requires { ⌜ 2 * length (queuedPlan n (rowsOf (now queue) (now heads) (now tails) (now lows) (now ends)) (now places)) ≤ length (now pairs) ⌝ }
-    ensures { λ r. ⌜ PhasePlanned n (rowsOf (now (queue .entry)) (now (heads .entry)) (now (tails .entry)) (now (lows .entry)) (now (ends .entry))) (now (places .entry)) (now (pairs .entry)) (now (pairs .exit)) r (now (heads .exit)) (now (lows .exit)) ⌝ }
+    requires { ⌜ Bounded n (length (now places)) (rowsOf (now queue) (now heads) (now tails) (now lows) (now rooms) (now ends)) ⌝ }
+    requires { ⌜ Roomed n (rowsOf (now queue) (now heads) (now tails) (now lows) (now rooms) (now ends)) (now places) ⌝ }
+    requires { ⌜ 2 * length (queuedPlan n (rowsOf (now queue) (now heads) (now tails) (now lows) (now rooms) (now ends)) (now places)) ≤ length (now pairs) ⌝ }
+    ensures { λ r. ⌜ PhasePlanned n (rowsOf (now (queue .entry)) (now (heads .entry)) (now (tails .entry)) (now (lows .entry)) (now (rooms .entry)) (now (ends .entry))) (now (places .entry)) (now (pairs .entry)) (now (pairs .exit)) r (now (heads .exit)) (now (lows .exit)) ⌝ }
 {
     let mut count: usize = 0;
     let mut p: usize = 0;
     while p < n {
         let head = heads[p] as usize;
         let high = ends[p] as usize;
-        let low = next_open(places, lows[p] as usize, high);
+        let tail = smaller(tails[p] as usize, head + rooms[p] as usize);
+        let low = raise_mark(places, lows[p] as usize, high, head < tail);
         lows[p] = low as u16;
-        let made = plan_rack(
-            places,
-            queue,
-            head,
-            tails[p] as usize,
-            low,
-            high,
-            pairs,
-            2 * count,
-        );
+        let made = plan_rack(places, queue, head, tail, low, high, pairs, 2 * count);
         heads[p] = (head + made) as u16;
         count = count + made;
         p = p + 1;

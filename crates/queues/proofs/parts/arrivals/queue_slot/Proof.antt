@@ -10,28 +10,49 @@ mul-x c = search needs
 shared-slice-read-x : tie.Need-shared-slice-read-x
 shared-slice-read-x c = search needs
 
+element-copy-out-here : tie.Need-element-copy-out-here
+element-copy-out-here c = search needs
+
+cast-here : tie.Need-cast-here
+cast-here c = search needs
+
+mul-rooms : tie.Need-mul-rooms
+mul-rooms c = search needs
+
+element-copy-out-rooms : tie.Need-element-copy-out-rooms
+element-copy-out-rooms c = search needs
+
+add-rooms : tie.Need-add-rooms
+add-rooms c = search needs
+
+mul-rooms-2 : tie.Need-mul-rooms-2
+mul-rooms-2 c = search needs
+
+element-write-rooms : tie.Need-element-write-rooms
+element-write-rooms c = search needs
+
 returns : tie.Need-returns
-returns c = queued-free _ _ _ _ _ (c .if1 .taken)
+returns c = queued-free _ _ _ _ _ _ (c .before .before .if1 .taken)
 
 cast-there : tie.Need-cast-there
-cast-there c = omega (arith, slot-named _ _ _ _ (c .before .before .pre) (c .if1 .left))
+cast-there c = omega (arith, slot-named _ _ _ _ _ (c .before .before .pre) (c .if1 .left))
 
 element-copy-out-there : tie.Need-element-copy-out-there
-element-copy-out-there c = slot-named _ _ _ _ (c .before .before .pre) (c .if1 .left)
+element-copy-out-there c = slot-named _ _ _ _ _ (c .before .before .pre) (c .if1 .left)
 
 element-copy-out-if2 : tie.Need-element-copy-out-if2
 element-copy-out-if2 c = search needs
 
 returns-2 : tie.Need-returns-2
-returns-2 c = queued-home _ _ _ _ _ (c .if2 .taken)
+returns-2 c = queued-home _ _ _ _ _ _ (c .before .before .before .if1 .left) (c .if2 .taken)
 
 -- the card's rack has a queue
 racked : tie.Need-element-copy-out-tail
-racked c = slot-racked _ _ _ _ (c .before .before .before .before .before .pre) (c .before .before .before .if1 .left)
+racked c = slot-racked _ _ _ _ _ (c .before .before .before .before .before .pre) (c .before .before .before .if1 .left)
 
 -- and the queue has room
 fits : tie.Need-element-write-queue
-fits c = slot-fits _ _ _ _ (c .before .before .before .before .before .before .pre) (c .before .before .before .before .if1 .left) (c .before .if2 .left)
+fits c = slot-fits _ _ _ _ _ (c .before .before .before .before .before .before .pre) (c .before .before .before .before .if1 .left) (c .before .if2 .left)
 
 cast-p : tie.Need-cast-p
 cast-p c = omega (arith, racked c)
@@ -64,7 +85,7 @@ element-write-tails : tie.Need-element-write-tails
 element-write-tails c = racked (c .before)
 
 returns-3 : tie.Need-returns-3
-returns-3 c = queued-away _ _ _ _ _ (c .before .before .before .before .if1 .left) (c .before .if2 .left)
+returns-3 c = queued-away _ _ _ _ _ _ (c .before .before .before .before .if1 .left) (c .before .if2 .left)
 
 pub queue-slot-spec : {M : Type 1} → statement M
 queue-slot-spec =
@@ -72,6 +93,13 @@ queue-slot-spec =
     (tie.spec
     mul-x
     shared-slice-read-x
+    element-copy-out-here
+    cast-here
+    mul-rooms
+    element-copy-out-rooms
+    add-rooms
+    mul-rooms-2
+    element-write-rooms
     returns
     cast-there
     element-copy-out-there

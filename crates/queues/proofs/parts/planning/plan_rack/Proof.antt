@@ -43,7 +43,7 @@ room c =
 
 -- the slot found is one of the rack
 inside : (c : tie.Else1 Inv-loop μ-loop) → c .before .next-open .result < 4096
-inside c = omega (arith, c .before .next-open .ensures .within)
+inside c = omega (arith, c .before .next-open .ensures .raised .within)
 
 mul-pairs-2 : tie.Need-mul-pairs-2 Inv-loop μ-loop
 mul-pairs-2 c = omega (arith, room (c .before))
