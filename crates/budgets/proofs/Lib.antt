@@ -1,4 +1,6 @@
 pub mod Marks
+pub mod Noting
+pub mod Rooms
 pub mod NextPhase
 pub mod Lowering
 pub mod PhaseRuns

@@ -3,10 +3,9 @@ use mathlib.Core.Path.{_≡_}
 use mathlib.Core.List.{List}
 use Prim.Native.Nat.{ℕ, _+_, _≤_, _<_, min}
 use lib.ListN.{length, getD, set}
-use native.Mathlib.Omega.{arith}
 use Rattle.moves.specs.Parts.{pairsIn}
-use Rattle.moves.proofs.Flat.{pairs-more, pairs-none, slots-first, slots-rest}
-use Rattle.budgets.specs.Engine.{lower, lowered, Sourced}
+use Rattle.moves.proofs.Flat.{pairs-more, pairs-none}
+use Rattle.budgets.specs.Engine.{lower, lowered}
 
 module _ (list : List ℕ) (i high : ℕ) (fits : high ≤ length list) (table : List ℕ) where
   -- the first of the moves left lowers its mark: those after it give the same
@@ -19,13 +18,3 @@ module _ (list : List ℕ) (i high : ℕ) (fits : high ≤ length list) (table :
   pub lowered-done : (lows end : List ℕ) → high < i + 2 → lowered table (pairsIn list i high) lows ≡ end → lows ≡ end
   unfolding lowered
   lowered-done lows end l rest = rw (pairs-none list i high fits l) at rest
-
-  -- the first source is a slot on one of 64 racks
-  pub sourced-first : i + 2 ≤ high → Sourced table (pairsIn list i high) → (getD list i 0 < 4096) × (getD table (getD list i 0) 0 < 64)
-  sourced-first l s =
-      let e = slots-first list i high fits (s .count) l (s .slots) in
-      (omega (arith, e .from-lt, s .few), s .racked _ (e .from-lt))
-
-  -- and so are those after it
-  pub sourced-rest : i + 2 ≤ high → Sourced table (pairsIn list i high) → Sourced table (pairsIn list (i + 2) high)
-  sourced-rest l s = record { count = s .count; few = s .few; slots = slots-rest list i high fits (s .count) l (s .slots); racked = s .racked }

@@ -13,7 +13,8 @@ use Rattle.queues.specs.Queues.{Rows, queuedPlan, PhasePlanned}
 use Rattle.moves.specs.Moves.{Held, carried}
 use Rattle.moves.specs.Parts.{pairsIn, AllSlots}
 use Rattle.moves.proofs.Flat.{pairs-of}
-use Rattle.budgets.specs.Engine.{lowered, Sourced, Runnable, PhaseRun}
+use Rattle.budgets.specs.Engine.{Notable, Noted, Runnable, PhaseRun}
+use Rattle.budgets.proofs.Noting.{notable-take}
 
 module _ (n b left : ℕ) (rows : Rows) (h : Held) (table pairs pairs′ heads marks : List ℕ) (planned made : ℕ) (w : Runnable n b rows h table pairs)
     (p : PhasePlanned n rows (h .places) pairs pairs′ planned heads marks) (e : made ≡ min planned left) where
@@ -37,13 +38,13 @@ module _ (n b left : ℕ) (rows : Rows) (h : Held) (table pairs pairs′ heads m
   pub made-slots : AllSlots (length (h .places)) (pairsIn pairs′ 0 (2 * made))
   made-slots = rw pairs-made (all-take left (w .slots))
 
-  pub made-sourced : Sourced table (pairsIn pairs′ 0 (2 * made))
-  made-sourced = record { count = length (h .places); few = w .bounded .small; slots = made-slots; racked = w .racked }
+  pub made-notable : Notable table (pairsIn pairs′ 0 (2 * made)) (rows .rooms)
+  made-notable = rw pairs-made (notable-take left (w .notable))
 
-  -- carried, and the marks lowered
-  pub phase-run : (h′ : Held) (lows : List ℕ) → h′ ≡ carried b (pairsIn pairs′ 0 (2 * made)) h → lows ≡ lowered table (pairsIn pairs′ 0 (2 * made)) marks
-      → PhaseRun n b left rows h table pairs made h′ pairs′ heads lows
-  phase-run h′ lows eh el =
+  -- carried, and noted
+  pub phase-run : (h′ : Held) (lows rooms : List ℕ) → h′ ≡ carried b (pairsIn pairs′ 0 (2 * made)) h → Noted table (pairsIn pairs′ 0 (2 * made)) marks (rows .rooms) lows rooms
+      → PhaseRun n b left rows h table pairs made h′ pairs′ heads lows rooms
+  phase-run h′ lows rooms eh en =
       record {
         made-is = rw (← (p .count-is)) e;
         held-is = rw (← pairs-made) eh;
@@ -53,5 +54,5 @@ module _ (n b left : ℕ) (rows : Rows) (h : Held) (table pairs pairs′ heads m
         marks = marks;
         marks-are = p .lows-are;
         marks-long = p .lows-long;
-        lows-are = rw (← pairs-made) el;
+        noted = rw (← pairs-made) en;
       }

@@ -14,7 +14,6 @@ use Rattle.counting.proofs.Every.{all-map}
 use Rattle.racks.specs.Racks.{Rack, slots}
 use Rattle.racks.specs.Table.{aways}
 use Rattle.racks.specs.Numbers.{someAway}
-use Rattle.racks.proofs.Geometry.{rack-lt}
 use Rattle.racks.specs.Legal.{Legal, Spared}
 use Rattle.racks.proofs.LegalTable.{legal}
 use Rattle.racks.proofs.Jobs.{sound-few, sound-racks}
@@ -26,14 +25,15 @@ use Rattle.phases.proofs.Plans.{plan-allowed, plan-few}
 use Rattle.phases.proofs.Possible.{plan-none}
 use Rattle.queues.specs.Queues.{Rows, rowsOf, queuedPlan}
 use Rattle.queues.specs.Ready.{Ready}
-use Rattle.queues.proofs.Ready.{ready-bounded, ready-count}
+use Rattle.queues.proofs.Ready.{ready-bounded, ready-roomed, ready-count}
 use Rattle.moves.specs.Moves.{carriedPlaces, carriedCards, Held, carried}
 use Rattle.moves.specs.Phases.{budget}
 use Rattle.moves.proofs.Carry.{InTurn, in-turn-take, legal-carried, aways-carried, places-append, cards-append, length-carried-cards}
 use Rattle.moves.proofs.Phases.{aways-none, budget-none, budget-step}
 use Rattle.moves.proofs.FirstFit.{first-fit}
 use Rattle.budgets.specs.Engine.{Runnable, PhaseRun, Going, Made}
-use Rattle.budgets.proofs.NextPhase.{plan-in-turn, ready-next}
+use Rattle.budgets.proofs.NextPhase.{plan-in-turn, ready-rooms, ready-next}
+use Rattle.budgets.proofs.Rooms.{rooms-notable}
 
 -- moves and further moves
 carried-append : (b : ℕ) (ms ns : List Pair) (h : Held) → carried b (ms ++ ns) h ≡ carried b ns (carried b ms h)
@@ -88,11 +88,12 @@ module _ (racks : List Rack) (n : ℕ) (table : List ℕ) (f : Fixed racks n tab
         bounded = ready-bounded racks (h .places) rows (t .ready l) n (f .racks-are) (t .legal .long);
         sized = ap (λ (s : ℕ). s * b) (t .legal .long) ∙ sym (t .cards-long);
         slots = rw (all-is, t .legal .long) (all-map (λ m a. record { from-lt = a .from-lt; to-lt = a .to-lt }) (plan-allowed racks (h .places)));
-        racked = λ g i. let q : g < slots racks = omega (arith, t .legal .long) in omega (arith, f .filled g q, rack-lt racks g q, f .few);
+        roomed = ready-roomed racks (h .places) rows (t .ready l) n (f .racks-are);
+        notable = rw all-is (rooms-notable table (f .filled) (f .few) (f .small) (t .legal) (plan-in-turn racks (h .places) rows (t .legal) (t .ready l)) (ready-rooms racks (h .places) rows (t .legal) (t .ready l)));
         room = rw all-is (omega (arith, plan-few racks (h .places), f .small, t .room));
       }
 
-  module _ (made : ℕ) (h′ : Held) (pairs′ heads lows : List ℕ) (r : PhaseRun n b left rows h table pairs made h′ pairs′ heads lows) where
+  module _ (made : ℕ) (h′ : Held) (pairs′ heads lows rooms : List ℕ) (r : PhaseRun n b left rows h table pairs made h′ pairs′ heads lows rooms) where
     pub made-is : made ≡ min (length (plan racks (h .places))) left
     made-is = r .made-is ∙ ap (λ (ms : List Pair). min (length ms) left) all-is
 
@@ -137,7 +138,7 @@ module _ (racks : List Rack) (n : ℕ) (table : List ℕ) (f : Fixed racks n tab
       ]
 
       -- the next turn
-      pub turn-next : Turn racks b k h₀ (rowsOf (rows .queue) heads (rows .tails) lows (rows .ends)) h′ pairs′ (left - made)
+      pub turn-next : Turn racks b k h₀ (rowsOf (rows .queue) heads (rows .tails) lows rooms (rows .ends)) h′ pairs′ (left - made)
       turn-next =
           record {
             within = omega (arith, t .within);
@@ -149,10 +150,10 @@ module _ (racks : List Rack) (n : ℕ) (table : List ℕ) (f : Fixed racks n tab
             count = counted (aways-carried (t .legal) in-turn) (length-take left (plan racks (h .places)));
           }
         where
-          ready : 0 < left - made → Ready racks (h′ .places) (rowsOf (rows .queue) heads (rows .tails) lows (rows .ends))
+          ready : 0 < left - made → Ready racks (h′ .places) (rowsOf (rows .queue) heads (rows .tails) lows rooms (rows .ends))
           ready o =
               let q : take left (plan racks (h .places)) ≡ plan racks (h .places) = take-all left (plan racks (h .places)) (omega (arith, made-is)) in
-              rw (held-is, r .lows-are, all-is, q)
+              rw (held-is, r .noted .lows-are, r .noted .rooms-are, all-is, q)
               (ready-next racks (h .places) rows (t .legal) (t .ready l) table (f .filled) heads (r .marks) (r .heads-long) (r .marks-long)
               (λ p i. r .heads-are p (omega (arith, f .racks-are))) (λ p i. r .marks-are p (omega (arith, f .racks-are))))
 

@@ -10,21 +10,12 @@ ghost use Rattle.racks.specs.Job.{racksOf, Sound};
 ghost use Rattle.racks.specs.Legal.{Spared};
 ghost use Rattle.tables.specs.Tables.{Filled};
 ghost use Rattle.queues.specs.Queues.{rowsOf};
+ghost use Rattle.queues.specs.Queued.{oneMore};
 ghost use Rattle.moves.specs.Parts.{held, pairsIn};
-ghost use Rattle.budgets.specs.Engine.{lowered, Sourced, Runnable, PhaseRun, Going, Made};
+ghost use Rattle.budgets.specs.Engine.{oneLess, Notable, Noted, Runnable, PhaseRun, Going, Made};
 use queues::parts::arrivals;
 use queues::parts::planning;
 use racks::Job;
-
-// The smaller of two numbers.
-fn smaller(x: usize, y: usize) -> usize
-    ensures { λ r. ⌜ r ≡ min x y ⌝ }
-{
-    if x < y {
-        return x;
-    }
-    y
-}
 
 // The smaller of a rack's mark and a slot.
 fn lower_mark(low: u16, g: u16) -> u16
@@ -36,17 +27,34 @@ fn lower_mark(low: u16, g: u16) -> u16
     g
 }
 
-// The marks after the first n moves of a list: each source's rack has a free slot there now.
-pub fn lower_marks(pairs: &[u16], n: usize, table: &[u8; 4096], lows: &mut [u16; 64])
-    requires { ⌜ (2 * n ≤ length (now pairs)) × (length (now lows) ≡ 64) × Sourced (now table) (pairsIn (now pairs) 0 (2 * n)) ⌝ }
-    ensures { λ _. ⌜ now (lows .exit) ≡ lowered (now (table .entry)) (pairsIn (now (pairs .entry)) 0 (2 * n)) (now (lows .entry)) ⌝ }
+// A card came from rack i to rack p: p has one free slot less, i one more.
+fn note_card(rooms: &mut [u16; 64], i: usize, p: usize)
+    requires { ⌜ (length (now rooms) ≡ 64) × (i < 64) × (p < 64) × (0 < getD (now rooms) p 0) × (getD (oneLess (now rooms) p) i 0 < 65535) ⌝ }
+    ensures { λ _. ⌜ now (rooms .exit) ≡ oneMore (oneLess (now (rooms .entry)) p) i ⌝ }
+{
+    rooms[p] = rooms[p] - 1;
+    rooms[i] = rooms[i] + 1;
+}
+
+// The marks and the counts of free slots after the first n moves of a list: each source is free now, each target is not.
+pub fn note_moves(
+    pairs: &[u16],
+    n: usize,
+    table: &[u8; 4096],
+    lows: &mut [u16; 64],
+    rooms: &mut [u16; 64],
+)
+    requires { ⌜ (2 * n ≤ length (now pairs)) × (length (now lows) ≡ 64) × (length (now rooms) ≡ 64) × Notable (now table) (pairsIn (now pairs) 0 (2 * n)) (now rooms) ⌝ }
+    ensures { λ _. ⌜ Noted (now (table .entry)) (pairsIn (now (pairs .entry)) 0 (2 * n)) (now (lows .entry)) (now (rooms .entry)) (now (lows .exit)) (now (rooms .exit)) ⌝ }
 {
     let high = 2 * n;
     let mut i: usize = 0;
     while i + 2 <= high {
         let g = pairs[i];
-        let p = table[g as usize] as usize;
-        lows[p] = lower_mark(lows[p], g);
+        let from = table[g as usize] as usize;
+        let to = table[pairs[i + 1] as usize] as usize;
+        lows[from] = lower_mark(lows[from], g);
+        note_card(rooms, from, to);
         i = i + 2;
     }
 }
@@ -63,16 +71,17 @@ pub fn run_phase(
     heads: &mut [u16; 64],
     tails: &[u16; 64],
     lows: &mut [u16; 64],
+    rooms: &mut [u16; 64],
     ends: &[u16; 64],
     pairs: &mut [u16],
 ) -> usize
-    requires { ⌜ Runnable n b (rowsOf (now queue) (now heads) (now tails) (now lows) (now ends)) (held (now places) (now cards)) (now table) (now pairs) ⌝ }
-    ensures { λ r. ⌜ PhaseRun n b left (rowsOf (now (queue .entry)) (now (heads .entry)) (now (tails .entry)) (now (lows .entry)) (now (ends .entry))) (held (now (places .entry)) (now (cards .entry))) (now (table .entry)) (now (pairs .entry)) r (held (now (places .exit)) (now (cards .exit))) (now (pairs .exit)) (now (heads .exit)) (now (lows .exit)) ⌝ }
+    requires { ⌜ Runnable n b (rowsOf (now queue) (now heads) (now tails) (now lows) (now rooms) (now ends)) (held (now places) (now cards)) (now table) (now pairs) ⌝ }
+    ensures { λ r. ⌜ PhaseRun n b left (rowsOf (now (queue .entry)) (now (heads .entry)) (now (tails .entry)) (now (lows .entry)) (now (rooms .entry)) (now (ends .entry))) (held (now (places .entry)) (now (cards .entry))) (now (table .entry)) (now (pairs .entry)) r (held (now (places .exit)) (now (cards .exit))) (now (pairs .exit)) (now (heads .exit)) (now (lows .exit)) (now (rooms .exit)) ⌝ }
 {
-    let planned = planning::plan_phase(n, places, queue, heads, tails, lows, ends, pairs);
-    let made = smaller(planned, left);
+    let planned = planning::plan_phase(n, places, queue, heads, tails, lows, rooms, ends, pairs);
+    let made = planning::smaller(planned, left);
     moves::parts::carry(pairs, 0, 2 * made, places, cards, b);
-    lower_marks(pairs, made, table, lows);
+    note_moves(pairs, made, table, lows, rooms);
     made
 }
 
@@ -88,10 +97,11 @@ pub fn run_moves(
     heads: &mut [u16; 64],
     tails: &[u16; 64],
     lows: &mut [u16; 64],
+    rooms: &mut [u16; 64],
     ends: &[u16; 64],
     pairs: &mut [u16],
 ) -> usize
-    requires { ⌜ Going job b (rowsOf (now queue) (now heads) (now tails) (now lows) (now ends)) (held (now places) (now cards)) (now table) (now pairs) ⌝ }
+    requires { ⌜ Going job b (rowsOf (now queue) (now heads) (now tails) (now lows) (now rooms) (now ends)) (held (now places) (now cards)) (now table) (now pairs) ⌝ }
     ensures { λ r. ⌜ Made (racksOf job) b k (held (now (places .entry)) (now (cards .entry))) (held (now (places .exit)) (now (cards .exit))) r ⌝ }
 {
     let mut left = k;
@@ -107,6 +117,7 @@ pub fn run_moves(
             heads,
             tails,
             lows,
+            rooms,
             ends,
             pairs,
         );
@@ -118,7 +129,7 @@ pub fn run_moves(
     k
 }
 
-// The queues and marks of a legal table, then phases with an allowance of k moves; gives how many were made.
+// The queues, marks and free slots of a legal table, then phases with an allowance of k moves; gives how many were made.
 pub fn move_cards(
     job: Job,
     b: usize,
@@ -134,6 +145,7 @@ pub fn move_cards(
     let mut heads = [0u16; 64];
     let mut tails = [0u16; 64];
     let mut lows = [0u16; 64];
+    let mut rooms = [0u16; 64];
     let mut ends = [0u16; 64];
     let mut pairs = [0u16; 8192];
     arrivals::queue_up(
@@ -144,6 +156,7 @@ pub fn move_cards(
         &mut heads,
         &mut tails,
         &mut lows,
+        &mut rooms,
         &mut ends,
     );
     run_moves(
@@ -157,6 +170,7 @@ pub fn move_cards(
         &mut heads,
         &tails,
         &mut lows,
+        &mut rooms,
         &ends,
         &mut pairs,
     )
