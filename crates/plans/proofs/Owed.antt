@@ -1,18 +1,16 @@
 -- Laws of counting what racks owe, slot by slot. Assumes nothing.
 use mathlib.Core.Path.{_≡_, ap, sym, _∙_}
-use mathlib.Core.Bool.{Bool, true, false, not}
+use mathlib.Core.Bool.{true, false, not}
 use mathlib.Core.Logic.{_≢_}
 use mathlib.Core.List.{List}
 use Prim.Native.Nat.{ℕ, _+_, _≤_, _<_}
 use native.Mathlib.Omega.{arith}
-use native.Mathlib.Decide.{ℕ-discrete, decLt}
-use lib.ListN.{length, getD, set, length-set, replicate, getD-replicate, length-replicate, List·getD-eq-default}
-use lib.Seq.{getD-set-same, getD-set-other}
+use native.Mathlib.Decide.{ℕ-discrete}
+use lib.ListN.{length, getD, set, replicate, length-replicate}
 use borrow.Author.Tests.{eq-eqb, ne-eqb}
-use Rattle.counting.specs.Tests.{pick}
 use Rattle.counting.specs.Count.{count}
-use Rattle.counting.proofs.Tests.{by-test, off, both, no-way, and-off-l, and-off-r, not-off}
-use Rattle.counting.proofs.Count.{count-none, count-on, count-off}
+use Rattle.counting.proofs.Tests.{by-test, off, both, and-off-l, and-off-r, not-off}
+use Rattle.counting.proofs.Count.{count-none}
 use Rattle.racks.specs.Limits.{FREE}
 use Rattle.racks.specs.Racks.{Rack, slots, rackOf}
 use Rattle.racks.specs.Table.{dest, free, rackTo, onRack, away, bound, owes, freeOn}
@@ -22,39 +20,9 @@ use Rattle.racks.proofs.LegalTable.{legal-dest}
 use Rattle.racks.proofs.Away.{away-held, to-away, to-rack, to-is, on-free, on-rack, on-is, bound-on, bound-off}
 use Rattle.tables.specs.Tables.{Filled}
 use Rattle.phases.specs.Plan.{room}
-use Rattle.plans.specs.Owed.{cell, Tallied, oneMore, awayBy, owesWith, roomsWith, Counted, Countable}
-
--- counts before and after a slot, which adds one at k where its test passes
-module _ (test : Bool) (k : ℕ) (l l′ : List ℕ) (e : l′ ≡ pick test (oneMore l k) l) (h : test ≡ true → k < length l) where
-  -- where the test passes, the count at k is one more
-  one-same : test ≡ true → getD l′ k 0 ≡ getD l k 0 + 1
-  unfolding oneMore
-  one-same t = rw (e, t) (getD-set-same l k (getD l k 0 + 1) 0 (h t))
-
-  -- any other is the same
-  one-other : (j : ℕ) → (test ≡ true → j ≢ k) → getD l′ j 0 ≡ getD l j 0
-  unfolding oneMore
-  one-other j d = by-test test (λ t. rw (e, t) (getD-set-other l k j (getD l k 0 + 1) 0 (d t))) (λ t. rw (e, t))
-
-  -- a count of the slots below g that pass f goes on to count slot g
-  one-count : (g j : ℕ) (f : ℕ → Bool) → getD l j 0 ≡ count g f → (test ≡ true → j ≡ k → f g ≡ true) → ((test ≡ true → j ≢ k) → f g ≡ false) → getD l′ j 0 ≡ count (g + 1) f
-  one-count g j f c y n = by-test test
-      (λ t. elim (ℕ-discrete j k) [
-        | yes q ↦ let z : getD l′ j 0 ≡ getD l j 0 + 1 = rw q (one-same t) in omega (arith, count-on g f (y t q))
-        | no d ↦ one-other j (λ _. d) ∙ c ∙ sym (count-off g f (n (λ _. d)))
-      ])
-      (λ t. let d : test ≡ true → j ≢ k = λ u. absurd (no-way u t) in one-other j d ∙ c ∙ sym (count-off g f (n d)))
-
-  -- none is above the number of slots
-  one-few : (g : ℕ) → ((j : ℕ) → getD l j 0 ≤ g) → (j : ℕ) → getD l′ j 0 ≤ g + 1
-  one-few g c j = by-test test
-      (λ t. elim (ℕ-discrete j k) [ yes q ↦ rw q (omega (arith, one-same t, c k)) | no d ↦ omega (arith, one-other j (λ _. d), c j) ])
-      (λ t. omega (arith, one-other j (λ u. absurd (no-way u t)), c j))
-
-  -- they are as many
-  one-long : length l′ ≡ length l
-  unfolding oneMore
-  one-long = by-test test (λ t. rw (e, t) (length-set l k (getD l k 0 + 1))) (λ t. rw (e, t))
+use Rattle.queues.specs.Queued.{oneMore, roomsWith}
+use Rattle.queues.proofs.Counts.{zeros, one-count, one-few, one-long}
+use Rattle.plans.specs.Owed.{cell, Tallied, awayBy, owesWith, Counted, Countable}
 
 -- a slot whose entry is not 65,535 is not free
 pub held : (places : List ℕ) (g : ℕ) → dest places g ≢ FREE → free places g ≡ false
@@ -91,13 +59,6 @@ pub record CountedTo (racks : List Rack) (places : List ℕ) (g : ℕ) (owed roo
   pub rooms-are : (p : ℕ) → p < length racks → getD rooms p 0 ≡ count g (freeOn racks places p)
   pub rooms-few : (k : ℕ) → getD rooms k 0 ≤ g
   pub rooms-long : length rooms ≡ 64
-
--- a list of zeros has 0 everywhere, and behind it
-zeros : (n k : ℕ) → getD {A = ℕ} (replicate n 0) k 0 ≡ 0
-zeros n k = elim (decLt k n) [
-  | yes l ↦ getD-replicate n k 0 0 l
-  | no l ↦ List·getD-eq-default (replicate n 0) 0 (omega (arith, length-replicate {A = ℕ} n 0))
-]
 
 module _ (racks : List Rack) (places : List ℕ) where
   -- no slot is counted

@@ -4,11 +4,12 @@ use mathlib.Core.Bool.{Bool, false, not}
 use mathlib.Core.List.{List}
 use Prim.Native.Nat.{ℕ, zero, suc, _+_, _*_, _-_, _<_, min}
 use lib.Dec.{eqb}
-use lib.ListN.{length, getD, set}
+use lib.ListN.{length, getD}
 use Rattle.counting.specs.Tests.{_and_, pick}
 use Rattle.racks.specs.Racks.{Rack}
 use Rattle.racks.specs.Table.{dest, free, owes}
 use Rattle.phases.specs.Plan.{other, room}
+use Rattle.queues.specs.Queued.{oneMore, roomsWith}
 
 -- where what rack i owes rack p stands
 abbrev pub cell : ℕ → ℕ → ℕ
@@ -29,10 +30,6 @@ pub record Tallied (racks : List Rack) (places owed rooms : List ℕ) : Type 0 w
   pub owed-are : Owed racks places owed
   pub rooms-are : Roomy racks places rooms
 
--- one more at k
-unfoldable pub oneMore : List ℕ → ℕ → List ℕ
-oneMore counts k = set counts k (getD counts k 0 + 1)
-
 -- slot g has a card that is away, by the table of each slot's rack
 unfoldable pub awayBy : List ℕ → List ℕ → ℕ → Bool
 awayBy places table g = not (free places g) and not (eqb (getD table g 0) (getD table (dest places g) 0))
@@ -40,10 +37,6 @@ awayBy places table g = not (free places g) and not (eqb (getD table g 0) (getD 
 -- what racks owe with slot g counted: a card that is away adds one
 unfoldable pub owesWith : List ℕ → List ℕ → ℕ → List ℕ → List ℕ
 owesWith places table g owed = pick (awayBy places table g) (oneMore owed (cell (getD table g 0) (getD table (dest places g) 0))) owed
-
--- the free slots of each rack with slot g counted: a free slot adds one
-unfoldable pub roomsWith : List ℕ → List ℕ → ℕ → List ℕ → List ℕ
-roomsWith places table g rooms = pick (free places g) (oneMore rooms (getD table g 0)) rooms
 
 -- slot g is counted
 pub record Counted (places table : List ℕ) (g : ℕ) (owed rooms owed′ rooms′ : List ℕ) : Type 0 where

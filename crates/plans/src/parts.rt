@@ -34,6 +34,7 @@ pub fn write_plan(job: Job, places: &[u16], racks: &[u8; 4096], lent: &mut [u16]
     let mut heads = [0u16; 64];
     let mut tails = [0u16; 64];
     let mut lows = [0u16; 64];
+    let mut rooms = [0u16; 64];
     let mut ends = [0u16; 64];
     arrivals::queue_up(
         job,
@@ -43,6 +44,7 @@ pub fn write_plan(job: Job, places: &[u16], racks: &[u8; 4096], lent: &mut [u16]
         &mut heads,
         &mut tails,
         &mut lows,
+        &mut rooms,
         &mut ends,
     );
     planning::plan_phase(
@@ -52,6 +54,7 @@ pub fn write_plan(job: Job, places: &[u16], racks: &[u8; 4096], lent: &mut [u16]
         &mut heads,
         &tails,
         &mut lows,
+        &rooms,
         &ends,
         lent,
     )

@@ -78,19 +78,19 @@ module _ (racks : List Rack) (n : ℕ) (table : List ℕ) (f : Fixed racks n tab
   pub round-runnable : Runnable n b rows h table pairs
   round-runnable = turn-runnable racks n table f b k h₀ rows h pairs left (r .turn) l
 
-  module _ (made : ℕ) (h′ : Held) (pairs′ heads lows : List ℕ) (p : PhaseRun n b left rows h table pairs made h′ pairs′ heads lows) where
+  module _ (made : ℕ) (h′ : Held) (pairs′ heads lows rooms : List ℕ) (p : PhaseRun n b left rows h table pairs made h′ pairs′ heads lows rooms) where
     abbrev all : List Pair
     all = plan racks (h .places)
 
     -- the whole plan is carried
     whole : made ≡ length (plan racks (h .places))
-    whole = omega (arith, made-is racks n table f b k h₀ rows h pairs left (r .turn) l made h′ pairs′ heads lows p, plan-aways racks (h .places), r .left-is)
+    whole = omega (arith, made-is racks n table f b k h₀ rows h pairs left (r .turn) l made h′ pairs′ heads lows rooms p, plan-aways racks (h .places), r .left-is)
 
     taken : take left (plan racks (h .places)) ≡ plan racks (h .places)
     taken = take-all left (plan racks (h .places)) (omega (arith, plan-aways racks (h .places), r .left-is))
 
     held-whole : h′ ≡ carried b (plan racks (h .places)) h
-    held-whole = held-is racks n table f b k h₀ rows h pairs left (r .turn) l made h′ pairs′ heads lows p ∙ ap (λ (ms : List Pair). carried b ms h) taken
+    held-whole = held-is racks n table f b k h₀ rows h pairs left (r .turn) l made h′ pairs′ heads lows rooms p ∙ ap (λ (ms : List Pair). carried b ms h) taken
 
     some : 0 < made
     some = omega (arith, whole, first-fit (f .spared) .has-pair (h .places) (r .turn .legal) away)
@@ -125,14 +125,14 @@ module _ (racks : List Rack) (n : ℕ) (table : List ℕ) (f : Fixed racks n tab
 
     -- the next round
     pub round-next : (t′ : Tally) (owes′ awaits′ : List ℕ) → Paid table (pairsIn pairs′ 0 (2 * made)) owes awaits t owes′ awaits′ t′
-        → Round racks b k h₀ (rowsOf (rows .queue) heads (rows .tails) lows (rows .ends)) h′ pairs′ (left - made) (record { phases = t′ .phases + 1; moves = t′ .moves; copies = t′ .copies }) owes′ awaits′
+        → Round racks b k h₀ (rowsOf (rows .queue) heads (rows .tails) lows rooms (rows .ends)) h′ pairs′ (left - made) (record { phases = t′ .phases + 1; moves = t′ .moves; copies = t′ .copies }) owes′ awaits′
     round-next t′ owes′ awaits′ q =
         let a = aways-carried (r .turn .legal) in-turn in
         let places-are : h′ .places ≡ carriedPlaces (plan racks (h .places)) (h .places) = ap (λ (x : Held). x .places) held-whole in
         let step : length (phases racks (h .places)) ≡ suc (length (phases racks (h′ .places))) = rw places-are (ap length (phases-step (first-fit (f .spared)) (r .turn .legal) away)) in
         let ms : length (pairsIn pairs′ 0 (2 * made)) ≡ made = ap length pairs-carried ∙ sym whole in
         record {
-          turn = turn-next racks n table f b k h₀ rows h pairs left (r .turn) l made h′ pairs′ heads lows p (λ z. omega (arith, some));
+          turn = turn-next racks n table f b k h₀ rows h pairs left (r .turn) l made h′ pairs′ heads lows rooms p (λ z. omega (arith, some));
           left-is = rw places-are (omega (arith, a, whole, r .left-is));
           phases-are = omega (arith, step, r .phases-are, ap (λ (x : Tally). x .phases) (q .tally-is));
           moves-are = omega (arith, r .moves-are, ms, made-left, ap (λ (x : Tally). x .moves) (q .tally-is));

@@ -38,6 +38,7 @@ pub fn make_phases(
     let mut owes = [0u16; 4096];
     let mut rooms = [0u16; 64];
     let mut pairs = [0u16; 8192];
+    plans::parts::owed::count_owed(job, places, table, &mut owes, &mut rooms);
     arrivals::queue_up(
         job,
         places,
@@ -46,9 +47,9 @@ pub fn make_phases(
         &mut heads,
         &mut tails,
         &mut lows,
+        &mut rooms,
         &mut ends,
     );
-    plans::parts::owed::count_owed(job, places, table, &mut owes, &mut rooms);
     let mut awaits = owes;
     let due = awaited::count_awaited(job, places, &awaits);
     rounds::run_phases(
@@ -62,6 +63,7 @@ pub fn make_phases(
         &mut heads,
         &tails,
         &mut lows,
+        &mut rooms,
         &ends,
         &mut pairs,
         &mut owes,

@@ -20,12 +20,13 @@ pub fn run_phases(
     heads: &mut [u16; 64],
     tails: &[u16; 64],
     lows: &mut [u16; 64],
+    rooms: &mut [u16; 64],
     ends: &[u16; 64],
     pairs: &mut [u16],
     owes: &mut [u16; 4096],
     awaits: &mut [u16; 4096],
 ) -> Tally
-    requires { ⌜ Set job b (rowsOf (now queue) (now heads) (now tails) (now lows) (now ends)) (held (now places) (now cards)) (now table) (now pairs) (now owes) (now awaits) due ⌝ }
+    requires { ⌜ Set job b (rowsOf (now queue) (now heads) (now tails) (now lows) (now rooms) (now ends)) (held (now places) (now cards)) (now table) (now pairs) (now owes) (now awaits) due ⌝ }
     ensures { λ r. ⌜ Gathered (racksOf job) b (held (now (places .entry)) (now (cards .entry))) (held (now (places .exit)) (now (cards .exit))) r (now (owes .exit)) (now (awaits .exit)) ⌝ }
 {
     let mut left = due;
@@ -42,6 +43,7 @@ pub fn run_phases(
             heads,
             tails,
             lows,
+            rooms,
             ends,
             pairs,
         );

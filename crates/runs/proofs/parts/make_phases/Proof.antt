@@ -4,21 +4,21 @@ use borrow.Author.Needs.{needs}
 use Rattle.runs.proofs.parts.make_phases.Statement.{statement}
 use Rattle.runs.proofs.parts.make_phases.Tie as tie
 
-queue-up-requires : tie.Need-queue-up-requires
-queue-up-requires c κs = search needs
-
 count-owed-requires : tie.Need-count-owed-requires
 count-owed-requires c κs = search needs
 
+queue-up-requires : tie.Need-queue-up-requires
+queue-up-requires c κs = search needs
+
 count-awaited-requires : tie.Need-count-awaited-requires
-count-awaited-requires c κs = let s = c .before .before .before .before .before .before .before .before .before .before .before .before .before .before .before in (s .pre .0, s .pre .3, c .before .before .count-owed .ensures .owed-are)
+count-awaited-requires c κs = let s = c .before .before .before .before .before .before .before .before .before .before .before .before .before .before .before .before in (s .pre .0, s .pre .3, c .before .before .before .before .before .before .before .before .before .before .count-owed .ensures .owed-are)
 
 slice-aggregate-run-phases : tie.Need-slice-aggregate-run-phases
 slice-aggregate-run-phases c = search needs
 
 run-phases-requires : tie.Need-run-phases-requires
 run-phases-requires c κs =
-    let s = c .before .before .before .before .before .before .before .before .before .before .before .before .before .before .before .before .before .before .before .before .before .before .before .before .before .before in
+    let s = c .before .before .before .before .before .before .before .before .before .before .before .before .before .before .before .before .before .before .before .before .before .before .before .before .before .before .before .before in
     record {
       going =
           record {
@@ -26,13 +26,13 @@ run-phases-requires c κs =
             spared = s .pre .1;
             filled = s .pre .2;
             legal = s .pre .3;
-            ready = c .before .before .before .before .before .before .before .before .before .before .before .before .before .before .before .before .before .queue-up .ensures;
+            ready = c .before .before .before .before .before .before .before .before .before .before .before .before .before .before .queue-up .ensures;
             cards-long = s .pre .4;
             room = omega arith;
           };
-      owed = c .before .before .before .before .before .before .before .before .before .before .before .before .before .count-owed .ensures .owed-are;
+      owed = c .before .before .before .before .before .before .before .before .before .before .before .before .before .before .before .before .before .before .before .before .before .before .count-owed .ensures .owed-are;
       agree = refl;
-      due-is = c .before .before .before .before .before .before .before .before .before .before .count-awaited .ensures;
+      due-is = c .before .before .before .before .before .before .before .before .before .before .before .count-awaited .ensures;
     }
 
 same-length : tie.Need-same-length
@@ -48,8 +48,8 @@ pub make-phases-spec : {M : Type 1} → statement M
 make-phases-spec =
     tie.close
     (tie.spec
-    queue-up-requires
     count-owed-requires
+    queue-up-requires
     count-awaited-requires
     slice-aggregate-run-phases
     run-phases-requires

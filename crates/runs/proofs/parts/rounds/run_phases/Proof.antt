@@ -11,12 +11,12 @@ use Rattle.runs.proofs.parts.rounds.run_phases.Statement.{statement}
 use Rattle.runs.proofs.parts.rounds.run_phases.Tie as tie
 
 abbrev Inv-loop : tie.InvT-loop
-Inv-loop job b due places₀ cards₀ table queue heads₀ tails lows₀ ends pairs₀ owes₀ awaits₀ left₀ tally₀ places cards heads lows pairs owes awaits left tally =
+Inv-loop job b due places₀ cards₀ table queue heads₀ tails lows₀ rooms₀ ends pairs₀ owes₀ awaits₀ left₀ tally₀ places cards heads lows rooms pairs owes awaits left tally =
     (length places ≡ length places₀) × (length cards ≡ length cards₀) × (length pairs ≡ length pairs₀)
-    × Round (racksOf job) b due (held places₀ cards₀) (rowsOf queue heads tails lows ends) (held places cards) pairs left tally owes awaits
+    × Round (racksOf job) b due (held places₀ cards₀) (rowsOf queue heads tails lows rooms ends) (held places cards) pairs left tally owes awaits
 
 abbrev μ-loop : tie.MeasureT-loop
-μ-loop job b due places₀ cards₀ table queue heads₀ tails lows₀ ends pairs₀ owes₀ awaits₀ left₀ tally₀ places cards heads lows pairs owes awaits left tally =
+μ-loop job b due places₀ cards₀ table queue heads₀ tails lows₀ rooms₀ ends pairs₀ owes₀ awaits₀ left₀ tally₀ places cards heads lows rooms pairs owes awaits left tally =
     left
 
 none-requires : tie.Need-none-requires Inv-loop μ-loop
@@ -29,48 +29,48 @@ loop-holds c =
 
 run-phase-requires : tie.Need-run-phase-requires Inv-loop μ-loop
 run-phase-requires c κs =
-    let l = c .before .before .before .before .before .before .loop in
-    let s = c .before .before .before .before .before .before .before .before .before .before .before in
+    let l = c .before .before .before .before .before .before .before .loop in
+    let s = c .before .before .before .before .before .before .before .before .before .before .before .before in
     round-runnable (racksOf (s .args .job)) _ (s .args .table .now) (going-fixed (s .pre .going)) (s .args .b) (s .args .due) _ _ _ _ _ _ _ _ (l .inv .3) (omega arith)
 
 pay-moves-requires : tie.Need-pay-moves-requires Inv-loop μ-loop
 pay-moves-requires c κs =
-    let l = c .before .before .before .before .before .before .before .before .before .before .before .before .before .before .before .before .loop in
-    let s = c .before .before .before .before .before .before .before .before .before .before .before .before .before .before .before .before .before .before .before .before .before in
+    let l = c .before .before .before .before .before .before .before .before .before .before .before .before .before .before .before .before .before .loop in
+    let s = c .before .before .before .before .before .before .before .before .before .before .before .before .before .before .before .before .before .before .before .before .before .before in
     let p = c .before .before .before .before .before .before .before .before .before .run-phase .ensures in
-    let o = round-payable (racksOf (s .args .job)) _ (s .args .table .now) (going-fixed (s .pre .going)) (s .args .b) (s .args .due) _ _ _ _ _ _ _ _ (l .inv .3) (c .before .before .before .before .before .before .before .before .before .before .before .before .before .before .before .loop-test .taken) _ _ _ _ _ p in
-    ((pairs-long (racksOf (s .args .job)) _ (s .args .table .now) (going-fixed (s .pre .going)) (s .args .b) (s .args .due) _ _ _ _ _ _ _ _ (l .inv .3) (c .before .before .before .before .before .before .before .before .before .before .before .before .before .before .before .loop-test .taken) _ _ _ _ _ p, l .inv .3 .owed .long, ap length (l .inv .3 .agree) ∙ l .inv .3 .owed .long, omega (arith, l .inv .3 .moves-are, made-left (racksOf (s .args .job)) _ (s .args .table .now) (going-fixed (s .pre .going)) (s .args .b) (s .args .due) _ _ _ _ _ _ _ _ (l .inv .3) (c .before .before .before .before .before .before .before .before .before .before .before .before .before .before .before .loop-test .taken) _ _ _ _ _ p, due-few (s .pre))), o)
+    let o = round-payable (racksOf (s .args .job)) _ (s .args .table .now) (going-fixed (s .pre .going)) (s .args .b) (s .args .due) _ _ _ _ _ _ _ _ (l .inv .3) (c .before .before .before .before .before .before .before .before .before .before .before .before .before .before .before .before .loop-test .taken) _ _ _ _ _ _ p in
+    ((pairs-long (racksOf (s .args .job)) _ (s .args .table .now) (going-fixed (s .pre .going)) (s .args .b) (s .args .due) _ _ _ _ _ _ _ _ (l .inv .3) (c .before .before .before .before .before .before .before .before .before .before .before .before .before .before .before .before .loop-test .taken) _ _ _ _ _ _ p, l .inv .3 .owed .long, ap length (l .inv .3 .agree) ∙ l .inv .3 .owed .long, omega (arith, l .inv .3 .moves-are, made-left (racksOf (s .args .job)) _ (s .args .table .now) (going-fixed (s .pre .going)) (s .args .b) (s .args .due) _ _ _ _ _ _ _ _ (l .inv .3) (c .before .before .before .before .before .before .before .before .before .before .before .before .before .before .before .before .loop-test .taken) _ _ _ _ _ _ p, due-few (s .pre))), o)
 
 add-phase-requires : tie.Need-add-phase-requires Inv-loop μ-loop
 add-phase-requires c κs =
-    let l = c .before .before .before .before .before .before .before .before .before .before .before .before .before .before .before .before .before .loop in
-    let s = c .before .before .before .before .before .before .before .before .before .before .before .before .before .before .before .before .before .before .before .before .before .before in
+    let l = c .before .before .before .before .before .before .before .before .before .before .before .before .before .before .before .before .before .before .loop in
+    let s = c .before .before .before .before .before .before .before .before .before .before .before .before .before .before .before .before .before .before .before .before .before .before .before in
     omega (arith, l .inv .3 .phases-are, phases-few (s .pre), ap (λ t. t .phases) (c .pay-moves .ensures .tally-is))
 
 sub-left : tie.Need-sub-left Inv-loop μ-loop
 sub-left c =
-    let l = c .before .before .before .before .before .before .before .before .before .before .before .before .before .before .before .before .before .before .loop in
-    let s = c .before .before .before .before .before .before .before .before .before .before .before .before .before .before .before .before .before .before .before .before .before .before .before in
+    let l = c .before .before .before .before .before .before .before .before .before .before .before .before .before .before .before .before .before .before .before .loop in
+    let s = c .before .before .before .before .before .before .before .before .before .before .before .before .before .before .before .before .before .before .before .before .before .before .before .before in
     let p = c .before .before .before .before .before .before .before .before .before .before .before .run-phase .ensures in
-    made-left (racksOf (s .args .job)) _ (s .args .table .now) (going-fixed (s .pre .going)) (s .args .b) (s .args .due) _ _ _ _ _ _ _ _ (l .inv .3) (c .before .before .before .before .before .before .before .before .before .before .before .before .before .before .before .before .before .loop-test .taken) _ _ _ _ _ p
+    made-left (racksOf (s .args .job)) _ (s .args .table .now) (going-fixed (s .pre .going)) (s .args .b) (s .args .due) _ _ _ _ _ _ _ _ (l .inv .3) (c .before .before .before .before .before .before .before .before .before .before .before .before .before .before .before .before .before .before .loop-test .taken) _ _ _ _ _ _ p
 
 loop-less : tie.Need-loop-less Inv-loop μ-loop
 loop-less c =
-    let l = c .before .before .before .before .before .before .before .before .before .before .before .before .before .before .before .before .before .before .loop in
-    let s = c .before .before .before .before .before .before .before .before .before .before .before .before .before .before .before .before .before .before .before .before .before .before .before in
+    let l = c .before .before .before .before .before .before .before .before .before .before .before .before .before .before .before .before .before .before .before .loop in
+    let s = c .before .before .before .before .before .before .before .before .before .before .before .before .before .before .before .before .before .before .before .before .before .before .before .before in
     let p = c .before .before .before .before .before .before .before .before .before .before .before .run-phase .ensures in
-    omega (arith, made-left (racksOf (s .args .job)) _ (s .args .table .now) (going-fixed (s .pre .going)) (s .args .b) (s .args .due) _ _ _ _ _ _ _ _ (l .inv .3) (c .before .before .before .before .before .before .before .before .before .before .before .before .before .before .before .before .before .loop-test .taken) _ _ _ _ _ p, made-some (racksOf (s .args .job)) _ (s .args .table .now) (going-fixed (s .pre .going)) (s .args .b) (s .args .due) _ _ _ _ _ _ _ _ (l .inv .3) (c .before .before .before .before .before .before .before .before .before .before .before .before .before .before .before .before .before .loop-test .taken) _ _ _ _ _ p)
+    omega (arith, made-left (racksOf (s .args .job)) _ (s .args .table .now) (going-fixed (s .pre .going)) (s .args .b) (s .args .due) _ _ _ _ _ _ _ _ (l .inv .3) (c .before .before .before .before .before .before .before .before .before .before .before .before .before .before .before .before .before .before .loop-test .taken) _ _ _ _ _ _ p, made-some (racksOf (s .args .job)) _ (s .args .table .now) (going-fixed (s .pre .going)) (s .args .b) (s .args .due) _ _ _ _ _ _ _ _ (l .inv .3) (c .before .before .before .before .before .before .before .before .before .before .before .before .before .before .before .before .before .before .loop-test .taken) _ _ _ _ _ _ p)
 
 loop-again : tie.Need-loop-again Inv-loop μ-loop
 loop-again c =
-    let l = c .before .before .before .before .before .before .before .before .before .before .before .before .before .before .before .before .before .before .loop in
-    let s = c .before .before .before .before .before .before .before .before .before .before .before .before .before .before .before .before .before .before .before .before .before .before .before in
+    let l = c .before .before .before .before .before .before .before .before .before .before .before .before .before .before .before .before .before .before .before .loop in
+    let s = c .before .before .before .before .before .before .before .before .before .before .before .before .before .before .before .before .before .before .before .before .before .before .before .before in
     let p = c .before .before .before .before .before .before .before .before .before .before .before .run-phase .ensures in
     let k = c .before .before .before .before .before .before .before .before .before .before .before .run-phase .kept in (
       omega (arith, k .1 .1 .1 .0, l .inv .0),
       omega (arith, k .1 .1 .1 .1 .0, l .inv .1),
-      omega (arith, k .1 .1 .1 .1 .1 .1 .1 .1 .1 .1 .1 .0, l .inv .2),
-      rw (c .add-phase .ensures) (round-next (racksOf (s .args .job)) _ (s .args .table .now) (going-fixed (s .pre .going)) (s .args .b) (s .args .due) _ _ _ _ _ _ _ _ (l .inv .3) (c .before .before .before .before .before .before .before .before .before .before .before .before .before .before .before .before .before .loop-test .taken) _ _ _ _ _ p _ _ _ (c .before .pay-moves .ensures)),
+      omega (arith, k .1 .1 .1 .1 .1 .1 .1 .1 .1 .1 .1 .1 .0, l .inv .2),
+      rw (c .add-phase .ensures) (round-next (racksOf (s .args .job)) _ (s .args .table .now) (going-fixed (s .pre .going)) (s .args .b) (s .args .due) _ _ _ _ _ _ _ _ (l .inv .3) (c .before .before .before .before .before .before .before .before .before .before .before .before .before .before .before .before .before .before .loop-test .taken) _ _ _ _ _ _ p _ _ _ (c .before .pay-moves .ensures)),
     )
 
 same-length : tie.Need-same-length Inv-loop μ-loop
