@@ -14,7 +14,7 @@ use Rattle.counting.proofs.Checks.{first-append, first-past, first-here, first-
 use Rattle.racks.proofs.Legal.{table-clear}
 use Rattle.racks.specs.Racks.{Rack}
 use Rattle.racks.specs.Numbers.{tableChecks, someAway, tooShort}
-use Rattle.racks.specs.Answers.{answer, noCounts, written}
+use Rattle.racks.specs.Answers.{copiesOf, answer, noCounts, written}
 use Rattle.racks.specs.declared.Answer.{Answer}
 use Rattle.racks.specs.declared.Tally.{Tally}
 use Rattle.copies.specs.Copies.{copyList, copyChecks, copied}
@@ -30,7 +30,7 @@ front-flat places list after count n w e l =
 
 module _ (racks : List Rack) (places lent : List ℕ) where
   abbrev counts : Tally
-  counts = record { phases = 0; moves = 0; copies = length (copyList places) }
+  counts = copiesOf (length (copyList places))
 
   by-number : (n : ℕ) → n ≡ first (copyChecks racks places lent) → listedOf (answer n counts) (written n lent (flat (copyList places))) ≡ copied racks places lent
   unfolding copied
@@ -64,7 +64,7 @@ module _ (racks : List Rack) (places lent : List ℕ) where
           (sym (past ∙ first-later _ 12 _ home ∙ first-here _ 13 [] (lt-ltb (length lent) (length (flat (copyList places))) (omega (arith, length-flat (copyList places))))))
 
       -- done
-      pub copied-done : 2 * count ≤ length lent → (a : Answer) (after : List ℕ) → a ≡ answer 0 (record { phases = 0; moves = 0; copies = count }) → after ≡ sets lent 0 (flat (copyList places))
+      pub copied-done : 2 * count ≤ length lent → (a : Answer) (after : List ℕ) → a ≡ answer 0 (copiesOf count) → after ≡ sets lent 0 (flat (copyList places))
           → listedOf a after ≡ copied racks places lent
       unfolding tooShort
       copied-done l a after ea el =

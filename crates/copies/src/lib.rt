@@ -5,6 +5,7 @@ ghost use Rattle.copies.specs.Copies.{copied};
 ghost use Rattle.racks.specs.Answers.{listedOf};
 use racks::Answer;
 use racks::Job;
+use racks::Tally;
 
 pub mod parts;
 
@@ -27,6 +28,7 @@ pub fn copy_list(caps: &[u16], places: &[u16], lent: &mut [u16]) -> Answer
     if lent.len() < 2 * count {
         return Answer::of(13);
     }
-    parts::copy_front(&list, 2 * count, lent);
-    parts::copies_done(count)
+    racks::parts::copy_front(lent, &list, 2 * count);
+    let tally = Tally::of_copies(count);
+    Answer::done(tally)
 }

@@ -1,14 +1,10 @@
 // What the copy list puts together, and the shuffle after it: the cards that are away, the list in the library's own array.
 ghost use mathlib.Core.Path.{_≡_};
 ghost use Prim.Native.Nat.{_≤_, _<_};
-ghost use lib.ListN.{length, take};
-ghost use lib.Seq.{sets};
-ghost use Rattle.racks.specs.Answers.{answer};
+ghost use lib.ListN.{length};
 ghost use Rattle.copies.specs.Chains.{Chained};
 ghost use Rattle.copies.specs.Writes.{awayBy, someAwayBy, Sources, AllWritten};
-use racks::Answer;
 use racks::Job;
-use racks::Tally;
 
 pub mod shifts;
 
@@ -56,28 +52,4 @@ pub fn list_copies(places: &[u16], sources: &mut [u16; 4096], list: &mut [u16; 1
     shifts::fill_sources(places, sources);
     let mut seen = [0u8; 4096];
     shifts::write_factors(places, sources, &mut seen, list)
-}
-
-// The first n numbers of the list, to the front of the lent one.
-pub fn copy_front(list: &[u16; 12288], n: usize, lent: &mut [u16])
-    requires { ⌜ (length (now list) ≡ 12288) × (n ≤ 12288) × (n ≤ length (now lent)) ⌝ }
-    ensures { λ _. ⌜ now (lent .exit) ≡ sets (now (lent .entry)) 0 (take n (now (list .entry))) ⌝ }
-{
-    let mut i: usize = 0;
-    while i < n {
-        lent[i] = list[i];
-        i = i + 1;
-    }
-}
-
-// Done, with the count of copies.
-pub fn copies_done(count: usize) -> Answer
-    ensures { λ r. ⌜ r ≡ answer 0 (record { phases = 0; moves = 0; copies = count }) ⌝ }
-{
-    let tally = Tally {
-        phases: 0,
-        moves: 0,
-        copies: count,
-    };
-    Answer { number: 0, tally }
 }

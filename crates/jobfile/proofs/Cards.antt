@@ -1,12 +1,11 @@
--- Laws of the card bytes, their number, and of a copy to the front of a list. Assumes nothing.
-use mathlib.Core.Path.{_≡_, ap, sym, _∙_}
-use mathlib.Core.List.{List, [], _∷_, _++_}
-use Prim.Native.Nat.{ℕ, suc, _+_, _-_, _≤_, _<_}
+-- Laws of the card bytes and their number. Assumes nothing.
+use mathlib.Core.Path.{_≡_, sym, _∙_}
+use mathlib.Core.List.{List, []}
+use Prim.Native.Nat.{ℕ, _-_, _≤_, _<_}
 use native.Mathlib.Omega.{arith}
 use native.Mathlib.Nat.{sub-self, le-of-eq}
-use native.Mathlib.Numerals.{add-one}
-use lib.ListN.{length, getD, set, take, drop, length-drop, drop-of-length-le}
-use lib.Seq.{sets, take-all, take-suc, length-take-le}
+use lib.ListN.{length, take, drop, length-drop, drop-of-length-le}
+use lib.Seq.{take-all}
 use borrow.Author.Tests.{eq-eqb, ne-eqb, lt-ltb, le-ltb}
 use Rattle.counting.proofs.Checks.{first-here, first-later, first-none}
 use Rattle.jobfile.specs.Answers.{cardsOf}
@@ -53,19 +52,3 @@ module _ (found : FileAnswer) (file : List ℕ) where
     -- else all that lies behind the place
     pub cards-behind : take (length file - found .place) (drop (found .place) file) ≡ cardsOf found file
     cards-behind = take-all (length file - found .place) (drop (found .place) file) (le-of-eq (length-drop (found .place) file)) ∙ cards-done
-
--- one list and then another written
-sets-append : (xs ys l : List ℕ) (i : ℕ) → sets l i (xs ++ ys) ≡ sets (sets l i xs) (i + length xs) ys
-sets-append [] ys l i = ap (λ (k : ℕ). sets l k ys) (omega arith)
-sets-append (x ∷ xs) ys l i = sets-append xs ys (set l i x) (suc i) ∙ ap (λ (k : ℕ). sets (sets l i (x ∷ xs)) k ys) (omega arith)
-
--- one number more copied to the front
-pub copy-more : (src lent now : List ℕ) (i : ℕ) → i < length src → now ≡ sets lent 0 (take i src) → set now i (getD src i 0) ≡ sets lent 0 (take (i + 1) src)
-copy-more src lent now i l e =
-    let v = getD src i 0 in
-    let k : i ≡ 0 + length (take i src) = omega (arith, length-take-le i src (omega arith)) in
-    ap (λ (x : List ℕ). set x i v) e
-    ∙ ap (λ (j : ℕ). set (sets lent 0 (take i src)) j v) k
-    ∙ sym (sets-append (take i src) (v ∷ []) lent 0)
-    ∙ ap (λ (x : List ℕ). sets lent 0 x) (sym (take-suc src i 0 l))
-    ∙ ap (λ (j : ℕ). sets lent 0 (take j src)) (sym (add-one i))

@@ -2,7 +2,6 @@
 ghost use mathlib.Core.Path.{_≡_};
 ghost use Prim.Native.Nat.{_<_, _≤_};
 ghost use lib.ListN.{length, take};
-ghost use lib.Seq.{sets};
 ghost use Rattle.racks.specs.Job.{racksOf, jobOf, Sound};
 ghost use Rattle.racks.specs.Racks.{ofCaps};
 ghost use Rattle.tables.specs.Tables.{Marked};
@@ -300,17 +299,5 @@ pub fn parse(file: &[u8], caps: &mut [u16; 64], places: &mut [u16; 4096]) -> Fil
         bytes: head.bytes,
         slots: job.slots,
         place: taken.place,
-    }
-}
-
-// The first n of one list to the front of another.
-pub fn copy_front(to: &mut [u16], src: &[u16], n: usize)
-    requires { ⌜ (n ≤ length (now to)) × (n ≤ length (now src)) ⌝ }
-    ensures { λ _. ⌜ now (to .exit) ≡ sets (now (to .entry)) 0 (take n (now (src .entry))) ⌝ }
-{
-    let mut i: usize = 0;
-    while i < n {
-        to[i] = src[i];
-        i = i + 1;
     }
 }

@@ -16,7 +16,7 @@ use Rattle.counting.proofs.Checks.{Clear, first-append, first-past, first-here,
 use Rattle.counting.proofs.Checks.Clear.{none, more}
 use Rattle.racks.specs.Racks.{Rack, slots}
 use Rattle.racks.specs.Numbers.{badCount, badBytes, badSize, badPlaces, badCards, badEntries, badTwice, tableChecks, cardChecks, someAway}
-use Rattle.racks.specs.Answers.{answer, noCounts}
+use Rattle.racks.specs.Answers.{copiesOf, answer, noCounts}
 use Rattle.racks.specs.declared.Answer.{Answer}
 use Rattle.racks.specs.declared.Tally.{Tally}
 use Rattle.moves.specs.Moves.{Held, Outcome, outcome}
@@ -63,7 +63,7 @@ module _ (racks : List Rack) (b : ℕ) (places cards : List ℕ) where
   lent = record { places = places; cards = cards }
 
   abbrev counts : Tally
-  counts = record { phases = 0; moves = 0; copies = length (copyList places) }
+  counts = copiesOf (length (copyList places))
 
   by-number : (n : ℕ) → n ≡ first (shuffleChecks racks b lent) → outcome n counts (settledHeld racks b lent) lent ≡ shuffled racks b lent
   unfolding shuffled
@@ -91,7 +91,7 @@ module _ (racks : List Rack) (b : ℕ) (places cards : List ℕ) where
 
     -- done
     pub shuffled-done : someAway racks places ≡ false → length places ≡ slots racks → (a : Answer) (count : ℕ) (places′ cards′ : List ℕ)
-        → a ≡ answer 0 (record { phases = 0; moves = 0; copies = count }) → Shuffled b places cards count places′ cards′ → outcomeOf a places′ cards′ ≡ shuffled racks b lent
+        → a ≡ answer 0 (copiesOf count) → Shuffled b places cards count places′ cards′ → outcomeOf a places′ cards′ ≡ shuffled racks b lent
     shuffled-done home long a count places′ cards′ e w =
         ap (λ (h : Held). with-held a h) (settled-held racks b places cards count places′ cards′ long w) ∙ rw (e, w .count-is) (by-number 0 (sym (past ∙ first-later _ 12 [] home ∙ first-none)))
       where

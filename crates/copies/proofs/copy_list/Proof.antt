@@ -3,7 +3,7 @@ use Rattle.copies.proofs.Copied.{front-flat, copied-table, copied-away,
 use Rattle.copies.proofs.Writing.{length-put-copies}
 use Rattle.copies.proofs.Costs.{list-most}
 use Rattle.copies.specs.Chains.{Chained}
-use Rattle.racks.specs.Answers.{listedOf}
+use Rattle.racks.specs.Answers.{answer, listedOf}
 use Rattle.tables.proofs.Tables.{of-sound, of-number}
 use Rattle.racks.specs.Numbers.{tableChecks, someAway}
 use Rattle.racks.specs.Racks.{ofCaps}
@@ -93,25 +93,31 @@ returns-3 c =
     ap (λ a. listedOf a (s .args .lent .now)) (c .of4 .ensures)
     ∙ copied-short (ofCaps (s .args .caps .now)) (s .args .places .now) (s .args .lent .now) (clear (l .before .before .before .before .before .before)) (home l) _ (l .list-copies .ensures .0 .count-is) (c .before .if3 .taken)
 
+slice-aggregate-copy-front : tie.Need-slice-aggregate-copy-front
+slice-aggregate-copy-front c = sym (long (c .before .before .before))
+
 mul-copy-front : tie.Need-mul-copy-front
 mul-copy-front c = search needs
 
 copy-front-requires : tie.Need-copy-front-requires
-copy-front-requires c κs = (long (c .before .before .before), omega (arith, most (c .before .before .before)), c .before .before .if3 .left)
+copy-front-requires c κs = (c .before .before .if3 .left, omega (arith, most (c .before .before .before), long (c .before .before .before)))
 
-copies-done-requires : tie.Need-copies-done-requires
-copies-done-requires c κs = search needs
+of-copies-requires : tie.Need-of-copies-requires
+of-copies-requires c κs = search needs
+
+done-requires : tie.Need-done-requires
+done-requires c κs = search needs
 
 same-length : tie.Need-same-length
 same-length c = search needs
 
 returns-4 : tie.Need-returns-4
 returns-4 c =
-    let s = c .before .before .before .before .before .before .before .before .before .before .before .before .before .before .before .before .before .before .before .before in
-    let l = c .before .before .before .before .before .before .before in
-    copied-done (ofCaps (s .args .caps .now)) (s .args .places .now) (s .args .lent .now) (clear (l .before .before .before .before .before .before)) (home l) _ (l .list-copies .ensures .0 .count-is) (c .before .before .before .before .before .before .if3 .left) _ _
-    (c .copies-done .ensures)
-    (c .before .before .before .copy-front .ensures ∙ ap (sets (s .args .lent .now) 0) (front-flat (s .args .places .now) _ _ _ _ (l .list-copies .ensures .0) refl (omega (arith, most l))))
+    let s = c .before .before .before .before .before .before .before .before .before .before .before .before .before .before .before .before .before .before .before .before .before in
+    let l = c .before .before .before .before .before .before .before .before in
+    copied-done (ofCaps (s .args .caps .now)) (s .args .places .now) (s .args .lent .now) (clear (l .before .before .before .before .before .before)) (home l) _ (l .list-copies .ensures .0 .count-is) (c .before .before .before .before .before .before .before .if3 .left) _ _
+    (c .done .ensures ∙ ap (answer 0) (c .before .of-copies .ensures))
+    (c .before .before .before .before .copy-front .ensures ∙ ap (sets (s .args .lent .now) 0) (front-flat (s .args .places .now) _ _ _ _ (l .list-copies .ensures .0) refl (omega (arith, most l))))
 
 pub copy-list-spec : {M : Type 1} → statement M
 copy-list-spec =
@@ -128,8 +134,10 @@ copy-list-spec =
     mul-if3
     of-requires-4
     returns-3
+    slice-aggregate-copy-front
     mul-copy-front
     copy-front-requires
-    copies-done-requires
+    of-copies-requires
+    done-requires
     same-length
     returns-4)

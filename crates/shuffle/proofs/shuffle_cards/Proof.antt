@@ -4,6 +4,7 @@ use Rattle.copies.proofs.Accepted.{accepted, away-known}
 use Rattle.copies.specs.Chains.{Chained}
 use Rattle.tables.proofs.Tables.{of-sound, of-cards}
 use Rattle.racks.proofs.Legal.{legal-long}
+use Rattle.racks.specs.Answers.{answer}
 use Rattle.racks.specs.Numbers.{cardChecks, someAway}
 use Rattle.racks.specs.Racks.{ofCaps, slots}
 use Rattle.counting.specs.Checks.{first}
@@ -86,8 +87,11 @@ settle-requires c κs =
     let s = c .before .before .before .before .before .before .before .before .before .before .before .before .before .before .before in
     (chains e, good e .bytes-few, good e .cards-long ∙ ap (λ (n : ℕ). n * s .args .b) (sym (long e)))
 
-copies-done-requires : tie.Need-copies-done-requires
-copies-done-requires c κs = search needs
+of-copies-requires : tie.Need-of-copies-requires
+of-copies-requires c κs = search needs
+
+done-requires : tie.Need-done-requires
+done-requires c κs = search needs
 
 same-length-5 : tie.Need-same-length-5
 same-length-5 c = search needs
@@ -97,9 +101,9 @@ same-length-6 c = search needs
 
 returns-3 : tie.Need-returns-3
 returns-3 c =
-    let e = c .before .before .before .before .before .before .before .before .before .before .before .before in
-    let s = c .before .before .before .before .before .before .before .before .before .before .before .before .before .before .before .before .before .before .before .before .before in
-    shuffled-done (ofCaps (s .args .caps .now)) (s .args .b) (s .args .places .now) (s .args .cards .now) (clear e) (sym (away (c .before .before .before .before .before .before .before .before .before)) ∙ c .before .before .before .before .before .before .before .before .if2 .left) (long e) _ _ _ _ (c .copies-done .ensures) (c .before .before .before .before .before .settle .ensures)
+    let e = c .before .before .before .before .before .before .before .before .before .before .before .before .before in
+    let s = c .before .before .before .before .before .before .before .before .before .before .before .before .before .before .before .before .before .before .before .before .before .before in
+    shuffled-done (ofCaps (s .args .caps .now)) (s .args .b) (s .args .places .now) (s .args .cards .now) (clear e) (sym (away (c .before .before .before .before .before .before .before .before .before .before)) ∙ c .before .before .before .before .before .before .before .before .before .if2 .left) (long e) _ _ _ _ (c .done .ensures ∙ ap (answer 0) (c .before .of-copies .ensures)) (c .before .before .before .before .before .before .settle .ensures)
 
 pub shuffle-cards-spec : {M : Type 1} → statement M
 shuffle-cards-spec =
@@ -117,7 +121,8 @@ shuffle-cards-spec =
     same-length-4
     returns-2
     settle-requires
-    copies-done-requires
+    of-copies-requires
+    done-requires
     same-length-5
     same-length-6
     returns-3)
