@@ -1,0 +1,990 @@
+//! The calls of `tests/plain` written for speed, without any proof: what a
+//! benchmark holds the proved library against. Safe Rust, nothing on the heap
+//! but the text of a listing.
+//!
+//! No phase is planned from the table anew. A card that is away moves only to
+//! its rack, so who arrives at a rack, and in which order, is fixed when a
+//! call begins: by source rack and then source slot is simply by slot. Each
+//! rack keeps that queue, and a phase takes from its front as many cards as
+//! the rack has free slots.
+
+#![allow(dead_code)]
+
+const RACKS: usize = 64;
+const SLOTS: usize = 4_096;
+const MAX_CARD: usize = 256;
+const MAX_CAPACITY: u16 = 1_023;
+const MAX_TOTAL: usize = 4_032;
+const MAX_PROGRAM_FILE: usize = 32_768;
+const FREE: u16 = 65_535;
+const HAND: u16 = 65_534;
+
+/// No slot: nothing comes to this one.
+const NONE: u16 = 65_535;
+
+/// Every slot number is below `SLOTS`; saying so with a mask lets the compiler
+/// drop the bounds check of an array of that length.
+const SLOT_MASK: usize = SLOTS - 1;
+const RACK_MASK: usize = RACKS - 1;
+
+#[derive(Clone, Copy, PartialEq, Eq, Debug, Default)]
+pub struct Answer {
+    pub number: usize,
+    pub phases: usize,
+    pub moves: usize,
+    pub copies: usize,
+}
+
+#[derive(Clone, Copy, PartialEq, Eq, Debug, Default)]
+pub struct SlotAnswer {
+    pub number: usize,
+    pub phases: usize,
+    pub moves: usize,
+    pub copies: usize,
+    /// 0 none, 1 user slot, 2 spare
+    pub kind: usize,
+    /// 0 none, 1 free, 2 settled, 3 on its rack but unsettled, 4 away
+    pub state: usize,
+    /// the destination's rack where the card is away, else 0
+    pub rack: usize,
+}
+
+#[derive(Clone, Copy, PartialEq, Eq, Debug, Default)]
+pub struct FileAnswer {
+    pub number: usize,
+    pub phases: usize,
+    pub moves: usize,
+    pub copies: usize,
+    pub racks: usize,
+    pub bytes: usize,
+    pub slots: usize,
+    /// where the card bytes begin in the file
+    pub place: usize,
+}
+
+#[derive(Clone, Copy, PartialEq, Eq, Debug, Default)]
+pub struct ListingAnswer {
+    pub number: usize,
+    pub phases: usize,
+    pub moves: usize,
+    pub copies: usize,
+    /// length of the text
+    pub size: usize,
+}
+
+fn refused(number: usize) -> Answer {
+    Answer {
+        number,
+        ..Answer::default()
+    }
+}
+
+// ---------------------------------------------------------------------------
+// Checks
+
+/// Where the racks begin.
+struct Layout {
+    racks: usize,
+    slots: usize,
+    /// base[p] is rack p's first slot, base[p + 1] the slot behind its spare.
+    base: [u16; RACKS + 1],
+}
+
+impl Layout {
+    /// After 1: gives 3.
+    #[inline]
+    fn new(caps: &[u16]) -> Result<Layout, usize> {
+        let mut base = [0; RACKS + 1];
+        let mut slots = 0;
+        for (p, &m) in caps.iter().enumerate() {
+            if m > MAX_CAPACITY {
+                return Err(3);
+            }
+            slots += usize::from(m) + 1;
+            // At most 64 times 1,024: the last sum may not fit, but then it is
+            // refused below.
+            base[p + 1] = slots as u16;
+        }
+        if slots - caps.len() > MAX_TOTAL {
+            return Err(3);
+        }
+        Ok(Layout {
+            racks: caps.len(),
+            slots,
+            base,
+        })
+    }
+
+    #[inline]
+    fn range(&self, p: usize) -> std::ops::Range<usize> {
+        usize::from(self.base[p])..usize::from(self.base[p + 1])
+    }
+
+    #[inline]
+    fn spare(&self, p: usize) -> usize {
+        usize::from(self.base[p + 1]) - 1
+    }
+
+    /// The rack of one slot; for all slots `fill_racks` is the faster way.
+    #[inline]
+    fn rack_of(&self, slot: usize) -> usize {
+        self.base[1..=self.racks].partition_point(|&next| usize::from(next) <= slot)
+    }
+
+    #[inline]
+    fn fill_racks(&self, rack_of: &mut [u8; SLOTS]) {
+        for p in 0..self.racks {
+            rack_of[self.range(p)].fill(p as u8);
+        }
+    }
+}
+
+#[inline]
+fn check_racks(racks: usize) -> Result<(), usize> {
+    if racks == 0 || racks > RACKS {
+        Err(1)
+    } else {
+        Ok(())
+    }
+}
+
+#[inline]
+fn check_card(b: usize) -> Result<(), usize> {
+    if b == 0 || b > MAX_CARD {
+        Err(2)
+    } else {
+        Ok(())
+    }
+}
+
+const NAMED: u8 = 1;
+const SPARE: u8 = 2;
+
+/// 5 and 6. Two passes without a branch: the first, for entries outside the
+/// slots, is a vector loop; the second marks what is named.
+#[inline]
+fn check_entries(layout: &Layout, places: &[u16]) -> Result<(), usize> {
+    let top = layout.slots as u16;
+    let mut outside = false;
+    for &entry in places {
+        outside |= (entry >= top) & (entry != FREE);
+    }
+    if outside {
+        return Err(5);
+    }
+
+    // A free slot marks a place of its own in the upper half. One place for
+    // all of them would make every mark wait for the one before it.
+    let mut marks = [0u8; 2 * SLOTS];
+    for p in 0..layout.racks {
+        marks[layout.spare(p)] = SPARE;
+    }
+    let mut found = 0;
+    for (g, &entry) in places.iter().enumerate() {
+        let at = if entry == FREE {
+            SLOTS + g
+        } else {
+            usize::from(entry)
+        };
+        let mark = &mut marks[at & (2 * SLOTS - 1)];
+        found |= *mark;
+        *mark |= NAMED;
+    }
+    if found & SPARE != 0 {
+        Err(5)
+    } else if found & NAMED != 0 {
+        Err(6)
+    } else {
+        Ok(())
+    }
+}
+
+#[inline]
+fn check_job(caps: &[u16], places: &[u16]) -> Result<Layout, usize> {
+    check_racks(caps.len())?;
+    let layout = Layout::new(caps)?;
+    if places.len() != layout.slots {
+        return Err(4);
+    }
+    check_entries(&layout, places)?;
+    Ok(layout)
+}
+
+#[inline]
+fn check_job_with_cards(
+    caps: &[u16],
+    b: usize,
+    places: &[u16],
+    cards: &[u8],
+) -> Result<Layout, usize> {
+    check_racks(caps.len())?;
+    check_card(b)?;
+    let layout = Layout::new(caps)?;
+    if places.len() != layout.slots || cards.len() != layout.slots * b {
+        return Err(4);
+    }
+    check_entries(&layout, places)?;
+    Ok(layout)
+}
+
+/// 12, rack by rack: an entry on its own rack lies in the rack's range, which
+/// one comparison sees.
+#[inline]
+fn check_nothing_away(layout: &Layout, places: &[u16]) -> Result<(), usize> {
+    let mut away = false;
+    for p in 0..layout.racks {
+        let base = layout.base[p];
+        let length = layout.base[p + 1] - base;
+        for &entry in &places[layout.range(p)] {
+            away |= (entry.wrapping_sub(base) >= length) & (entry != FREE);
+        }
+    }
+    if away {
+        Err(12)
+    } else {
+        Ok(())
+    }
+}
+
+// ---------------------------------------------------------------------------
+// Cards
+
+/// Through a local array: no overlap test, and vector loads and stores.
+#[inline(always)]
+fn copy_fixed<const W: usize>(cards: &mut [u8], from: usize, to: usize) {
+    let mut card = [0; W];
+    card.copy_from_slice(&cards[from..from + W]);
+    cards[to..to + W].copy_from_slice(&card);
+}
+
+#[inline(always)]
+fn copy_card(cards: &mut [u8], b: usize, from: usize, to: usize) {
+    const STEP: usize = 16;
+    let (from, to) = (from * b, to * b);
+    match b {
+        1 => cards[to] = cards[from],
+        2 => copy_fixed::<2>(cards, from, to),
+        4 => copy_fixed::<4>(cards, from, to),
+        8 => copy_fixed::<8>(cards, from, to),
+        16 => copy_fixed::<16>(cards, from, to),
+        32 => copy_fixed::<32>(cards, from, to),
+        64 => copy_fixed::<64>(cards, from, to),
+        _ if b < STEP => {
+            for i in 0..b {
+                cards[to + i] = cards[from + i];
+            }
+        }
+        _ if b < 8 * STEP => {
+            let mut i = 0;
+            while i + STEP < b {
+                copy_fixed::<STEP>(cards, from + i, to + i);
+                i += STEP;
+            }
+            // The last step may copy some bytes a second time.
+            copy_fixed::<STEP>(cards, from + b - STEP, to + b - STEP);
+        }
+        _ => cards.copy_within(from..from + b, to),
+    }
+}
+
+#[inline(always)]
+fn zero_card(cards: &mut [u8], b: usize, slot: usize) {
+    let at = slot * b;
+    match b {
+        1 => cards[at] = 0,
+        2 => cards[at..at + 2].fill(0),
+        4 => cards[at..at + 4].fill(0),
+        8 => cards[at..at + 8].fill(0),
+        16 => cards[at..at + 16].fill(0),
+        32 => cards[at..at + 32].fill(0),
+        64 => cards[at..at + 64].fill(0),
+        _ => cards[at..at + b].fill(0),
+    }
+}
+
+// ---------------------------------------------------------------------------
+// Phases
+
+struct Phases {
+    racks: usize,
+    rack_of: [u8; SLOTS],
+    /// The slots of the cards away to p, ascending, from p's base on: at most
+    /// as many cards are bound for p as it has user slots.
+    queue: [u16; SLOTS],
+    /// Beside each card of the queues the slot that the present plan gives it.
+    target: [u16; SLOTS],
+    /// The first card of p's queue that has not moved, and the queue's end.
+    next: [u16; RACKS],
+    end: [u16; RACKS],
+    /// How many cards of p's queue the present plan moves.
+    granted: [u16; RACKS],
+    /// Free slots that no plan has given away.
+    free: [u16; RACKS],
+    /// No slot of p below this is free when a phase begins.
+    low: [u16; RACKS],
+}
+
+impl Phases {
+    #[inline(always)]
+    fn new(layout: &Layout, places: &[u16]) -> Phases {
+        let mut phases = Phases {
+            racks: layout.racks,
+            rack_of: [0; SLOTS],
+            queue: [0; SLOTS],
+            target: [0; SLOTS],
+            next: [0; RACKS],
+            end: [0; RACKS],
+            granted: [0; RACKS],
+            free: [0; RACKS],
+            low: [0; RACKS],
+        };
+        layout.fill_racks(&mut phases.rack_of);
+        phases.next.copy_from_slice(&layout.base[..RACKS]);
+        phases.low = phases.next;
+        phases.end = phases.next;
+        for p in 0..layout.racks {
+            let range = layout.range(p);
+            let first = range.start;
+            let mut free = 0;
+            for (offset, &entry) in places[range].iter().enumerate() {
+                let is_free = entry == FREE;
+                let to = usize::from(phases.rack_of[usize::from(entry) & SLOT_MASK]) & RACK_MASK;
+                // Written for every slot, kept only for a card that is away:
+                // one place behind the queue still is a slot of its rack.
+                let end = phases.end[to];
+                phases.queue[usize::from(end) & SLOT_MASK] = (first + offset) as u16;
+                phases.end[to] = end + u16::from(!is_free & (to != p));
+                free += u16::from(is_free);
+            }
+            phases.free[p] = free;
+        }
+        phases
+    }
+
+    /// How many cards the next phase moves to p.
+    #[inline]
+    fn grant(&self, p: usize) -> u16 {
+        (self.end[p] - self.next[p]).min(self.free[p])
+    }
+
+    /// Plans a phase and gives the number of its pairs. No card moves here, so
+    /// slots that empty in this phase are not taken in it.
+    #[inline]
+    fn plan(&mut self, places: &[u16]) -> usize {
+        let mut pairs = 0;
+        for p in 0..self.racks {
+            let granted = self.grant(p);
+            self.granted[p] = granted;
+            if granted == 0 {
+                continue;
+            }
+            self.free[p] -= granted;
+            pairs += usize::from(granted);
+            let next = usize::from(self.next[p]);
+            let mut slot = usize::from(self.low[p]);
+            for target in &mut self.target[next..next + usize::from(granted)] {
+                while places[slot] != FREE {
+                    slot += 1;
+                }
+                *target = slot as u16;
+                slot += 1;
+            }
+            self.low[p] = slot as u16;
+        }
+        pairs
+    }
+
+    /// The pairs of the present plan, in plan order.
+    fn pairs(&self) -> impl Iterator<Item = (u16, u16)> + '_ {
+        (0..self.racks).flat_map(move |p| {
+            let next = usize::from(self.next[p]);
+            let range = next..next + usize::from(self.granted[p]);
+            self.queue[range.clone()]
+                .iter()
+                .copied()
+                .zip(self.target[range].iter().copied())
+        })
+    }
+
+    /// Carries the present plan's pairs in order, at most `allowance`.
+    #[inline]
+    fn carry(&mut self, places: &mut [u16], cards: &mut [u8], b: usize, allowance: usize) {
+        let mut left = allowance;
+        for p in 0..self.racks {
+            let granted = usize::from(self.granted[p]).min(left);
+            left -= granted;
+            let next = usize::from(self.next[p]);
+            for at in next..next + granted {
+                let from = usize::from(self.queue[at & SLOT_MASK]);
+                let to = usize::from(self.target[at & SLOT_MASK]);
+                places[to] = places[from];
+                places[from] = FREE;
+                copy_card(cards, b, from, to);
+                zero_card(cards, b, from);
+                let source = usize::from(self.rack_of[from & SLOT_MASK]) & RACK_MASK;
+                self.free[source] += 1;
+                self.low[source] = self.low[source].min(from as u16);
+            }
+            self.next[p] += granted as u16;
+        }
+    }
+}
+
+// ---------------------------------------------------------------------------
+// Copies
+
+/// For each slot the slot whose card is bound for it; one place more, that no
+/// one reads, takes the free slots.
+struct Coming([u16; SLOTS + 1]);
+
+impl Coming {
+    #[inline(always)]
+    fn new(places: &[u16]) -> Coming {
+        let mut coming = [NONE; SLOTS + 1];
+        for (g, &entry) in places.iter().enumerate() {
+            coming[usize::from(entry).min(SLOTS)] = g as u16;
+        }
+        Coming(coming)
+    }
+
+    #[inline(always)]
+    fn to(&self, slot: usize) -> u16 {
+        self.0[slot & SLOT_MASK]
+    }
+}
+
+/// Calls `step` for each copy, in the order of the list.
+#[inline(always)]
+fn each_copy(places: &[u16], coming: &Coming, mut step: impl FnMut(u16, u16)) {
+    let mut done = [false; SLOTS];
+    for lowest in 0..places.len() {
+        let settled = usize::from(places[lowest]) == lowest;
+        let lone = places[lowest] == FREE && coming.to(lowest) == NONE;
+        if done[lowest & SLOT_MASK] || settled || lone {
+            continue;
+        }
+        let mut last = lowest;
+        while places[last] != FREE && usize::from(places[last]) != lowest {
+            last = usize::from(places[last]);
+        }
+        let cycle = places[last] != FREE;
+        if cycle {
+            step(last as u16, HAND);
+        }
+        let mut to = last;
+        done[to & SLOT_MASK] = true;
+        while !(cycle && to == lowest) {
+            let from = coming.to(to);
+            if from == NONE {
+                break;
+            }
+            step(from, to as u16);
+            to = usize::from(from);
+            done[to & SLOT_MASK] = true;
+        }
+        if cycle {
+            step(HAND, lowest as u16);
+        }
+    }
+}
+
+/// The shuffle. The factors do not touch each other, so what is left does not
+/// depend on their order: shifts first, from each free end backwards; what is
+/// unsettled after them lies in cycles.
+#[inline]
+fn run_copies(places: &mut [u16], cards: &mut [u8], b: usize) -> usize {
+    let coming = Coming::new(places);
+    let mut copies = 0;
+    for end in 0..places.len() {
+        if places[end] != FREE || coming.to(end) == NONE {
+            continue;
+        }
+        let mut to = end;
+        loop {
+            let from = coming.to(to);
+            if from == NONE {
+                break;
+            }
+            copy_card(cards, b, usize::from(from), to);
+            places[to] = to as u16;
+            copies += 1;
+            to = usize::from(from);
+        }
+        places[to] = FREE;
+    }
+
+    let mut hand = [0; MAX_CARD];
+    for first in 0..places.len() {
+        if places[first] == FREE || usize::from(places[first]) == first {
+            continue;
+        }
+        let mut to = usize::from(coming.to(first));
+        hand[..b].copy_from_slice(&cards[to * b..(to + 1) * b]);
+        while to != first {
+            let from = usize::from(coming.to(to));
+            copy_card(cards, b, from, to);
+            places[to] = to as u16;
+            copies += 1;
+            to = from;
+        }
+        cards[first * b..(first + 1) * b].copy_from_slice(&hand[..b]);
+        places[first] = first as u16;
+        copies += 2;
+    }
+
+    for (slot, &entry) in places.iter().enumerate() {
+        if entry == FREE {
+            zero_card(cards, b, slot);
+        }
+    }
+    copies
+}
+
+// ---------------------------------------------------------------------------
+// The calls
+
+pub fn check_table(caps: &[u16], places: &[u16]) -> Answer {
+    match check_job(caps, places) {
+        Ok(_) => Answer::default(),
+        Err(number) => refused(number),
+    }
+}
+
+pub fn slot_question(caps: &[u16], places: &[u16], slot: usize) -> SlotAnswer {
+    let none = |number| SlotAnswer {
+        number,
+        ..SlotAnswer::default()
+    };
+    let layout = match check_job(caps, places) {
+        Ok(layout) => layout,
+        Err(number) => return none(number),
+    };
+    if slot >= layout.slots {
+        return none(7);
+    }
+    let own = layout.rack_of(slot);
+    let entry = places[slot];
+    let (state, rack) = if entry == FREE {
+        (1, 0)
+    } else if usize::from(entry) == slot {
+        (2, 0)
+    } else {
+        match layout.rack_of(usize::from(entry)) {
+            rack if rack == own => (3, 0),
+            rack => (4, rack),
+        }
+    };
+    SlotAnswer {
+        kind: 1 + usize::from(slot == layout.spare(own)),
+        state,
+        rack,
+        ..SlotAnswer::default()
+    }
+}
+
+pub fn phase_plan(caps: &[u16], places: &[u16], list: &mut [u16]) -> Answer {
+    let layout = match check_job(caps, places) {
+        Ok(layout) => layout,
+        Err(number) => return refused(number),
+    };
+    let phases = Phases::new(&layout, places);
+    let moves = (0..layout.racks)
+        .map(|p| usize::from(phases.grant(p)))
+        .sum::<usize>();
+    if list.len() < 2 * moves {
+        return refused(13);
+    }
+    let mut pairs = list.chunks_exact_mut(2);
+    for p in 0..layout.racks {
+        let granted = usize::from(phases.grant(p));
+        let next = usize::from(phases.next[p]);
+        let mut slot = next;
+        for (&from, pair) in phases.queue[next..next + granted].iter().zip(&mut pairs) {
+            while places[slot] != FREE {
+                slot += 1;
+            }
+            pair[0] = from;
+            pair[1] = slot as u16;
+            slot += 1;
+        }
+    }
+    Answer {
+        moves,
+        ..Answer::default()
+    }
+}
+
+pub fn one_move(
+    caps: &[u16],
+    b: usize,
+    places: &mut [u16],
+    cards: &mut [u8],
+    from: usize,
+    to: usize,
+) -> Answer {
+    let layout = match check_job_with_cards(caps, b, places, cards) {
+        Ok(layout) => layout,
+        Err(number) => return refused(number),
+    };
+    if from >= layout.slots || to >= layout.slots {
+        return refused(7);
+    }
+    let entry = places[from];
+    if entry == FREE {
+        return refused(8);
+    }
+    let bound = layout.rack_of(usize::from(entry));
+    if layout.range(bound).contains(&from) {
+        return refused(9);
+    }
+    if !layout.range(bound).contains(&to) {
+        return refused(10);
+    }
+    if places[to] != FREE {
+        return refused(11);
+    }
+    places[to] = entry;
+    places[from] = FREE;
+    copy_card(cards, b, from, to);
+    zero_card(cards, b, from);
+    Answer {
+        moves: 1,
+        ..Answer::default()
+    }
+}
+
+pub fn budgeted_moves(
+    caps: &[u16],
+    b: usize,
+    places: &mut [u16],
+    cards: &mut [u8],
+    k: usize,
+) -> Answer {
+    let layout = match check_job_with_cards(caps, b, places, cards) {
+        Ok(layout) => layout,
+        Err(number) => return refused(number),
+    };
+    let mut moves = 0;
+    if k > 0 {
+        let mut phases = Phases::new(&layout, places);
+        while moves < k {
+            let pairs = phases.plan(places);
+            if pairs == 0 {
+                break;
+            }
+            phases.carry(places, cards, b, k - moves);
+            moves += pairs.min(k - moves);
+        }
+    }
+    Answer {
+        moves,
+        ..Answer::default()
+    }
+}
+
+pub fn copy_list(caps: &[u16], places: &[u16], list: &mut [u16]) -> Answer {
+    let checked = check_job(caps, places).and_then(|layout| check_nothing_away(&layout, places));
+    if let Err(number) = checked {
+        return refused(number);
+    }
+    let coming = Coming::new(places);
+    // Each unsettled card is one copy and each cycle, of two cards or more,
+    // one on top. Only a list shorter than that bound needs the exact number
+    // before anything is written.
+    let mut unsettled = 0;
+    for (g, &entry) in places.iter().enumerate() {
+        unsettled += usize::from((entry != FREE) & (usize::from(entry) != g));
+    }
+    if list.len() < 2 * (unsettled + unsettled / 2) {
+        let mut needed = 0;
+        each_copy(places, &coming, |_, _| needed += 2);
+        if list.len() < needed {
+            return refused(13);
+        }
+    }
+    let mut copies = 0;
+    each_copy(places, &coming, |from, to| {
+        list[2 * copies] = from;
+        list[2 * copies + 1] = to;
+        copies += 1;
+    });
+    Answer {
+        copies,
+        ..Answer::default()
+    }
+}
+
+pub fn shuffle_cards(caps: &[u16], b: usize, places: &mut [u16], cards: &mut [u8]) -> Answer {
+    let checked = check_job_with_cards(caps, b, places, cards)
+        .and_then(|layout| check_nothing_away(&layout, places));
+    if let Err(number) = checked {
+        return refused(number);
+    }
+    Answer {
+        copies: run_copies(places, cards, b),
+        ..Answer::default()
+    }
+}
+
+pub fn whole_run(caps: &[u16], b: usize, places: &mut [u16], cards: &mut [u8]) -> Answer {
+    let layout = match check_job_with_cards(caps, b, places, cards) {
+        Ok(layout) => layout,
+        Err(number) => return refused(number),
+    };
+    let mut tally = Answer::default();
+    let mut phases = Phases::new(&layout, places);
+    loop {
+        let pairs = phases.plan(places);
+        if pairs == 0 {
+            break;
+        }
+        phases.carry(places, cards, b, pairs);
+        tally.phases += 1;
+        tally.moves += pairs;
+    }
+    tally.copies = run_copies(places, cards, b);
+    tally
+}
+
+// ---------------------------------------------------------------------------
+// Job files
+
+/// What a file holds, in lists of the largest job's length.
+struct Job {
+    layout: Layout,
+    caps: [u16; RACKS],
+    b: usize,
+    places: [u16; SLOTS],
+    /// where the card bytes begin in the file
+    place: usize,
+}
+
+#[inline(always)]
+fn read_number(file: &[u8], place: &mut usize) -> Result<usize, usize> {
+    let byte = *file.get(*place).ok_or(15usize)?;
+    *place += 1;
+    if byte < 0x80 {
+        return Ok(usize::from(byte));
+    }
+    let low = usize::from(byte & 0x7f);
+    let byte = *file.get(*place).ok_or(15usize)?;
+    *place += 1;
+    if byte < 0x80 {
+        return if byte == 0 {
+            Err(14)
+        } else {
+            Ok(low | usize::from(byte) << 7)
+        };
+    }
+    let middle = usize::from(byte & 0x7f) << 7;
+    let byte = *file.get(*place).ok_or(15usize)?;
+    *place += 1;
+    if byte == 0 || byte >= 0x80 {
+        return Err(14);
+    }
+    Ok(low | middle | usize::from(byte) << 14)
+}
+
+/// All of the reader's checks but 17.
+#[inline(always)]
+fn read_job(file: &[u8]) -> Result<Job, usize> {
+    let mut place = 0;
+    let racks = read_number(file, &mut place)?;
+    check_racks(racks)?;
+    let b = read_number(file, &mut place)?;
+    check_card(b)?;
+
+    let mut caps = [0; RACKS];
+    let mut total = 0;
+    for m in &mut caps[..racks] {
+        let number = read_number(file, &mut place)?;
+        total += number;
+        if number > usize::from(MAX_CAPACITY) || total > MAX_TOTAL {
+            return Err(3);
+        }
+        *m = number as u16;
+    }
+    let layout = Layout::new(&caps[..racks])?;
+
+    let mut marks = [0u8; SLOTS];
+    for p in 0..racks {
+        marks[layout.spare(p)] = SPARE;
+    }
+    let mut places = [FREE; SLOTS];
+    let mut found = 0;
+    for entry in &mut places[..layout.slots] {
+        let number = read_number(file, &mut place)?;
+        if number == 0 {
+            continue;
+        }
+        let slot = number - 1;
+        if slot >= layout.slots {
+            return Err(5);
+        }
+        let mark = &mut marks[slot & SLOT_MASK];
+        if *mark & SPARE != 0 {
+            return Err(5);
+        }
+        found |= *mark;
+        *mark = NAMED;
+        *entry = slot as u16;
+    }
+    if found != 0 {
+        return Err(6);
+    }
+
+    let left = file.len() - place;
+    let wanted = layout.slots * b;
+    match left.cmp(&wanted) {
+        std::cmp::Ordering::Less => Err(15),
+        std::cmp::Ordering::Greater => Err(16),
+        std::cmp::Ordering::Equal => Ok(Job {
+            layout,
+            caps,
+            b,
+            places,
+            place,
+        }),
+    }
+}
+
+pub fn read_file(file: &[u8], caps: &mut [u16], places: &mut [u16]) -> FileAnswer {
+    let refused = |number| FileAnswer {
+        number,
+        ..FileAnswer::default()
+    };
+    let job = match read_job(file) {
+        Ok(job) => job,
+        Err(number) => return refused(number),
+    };
+    let (racks, slots) = (job.layout.racks, job.layout.slots);
+    if caps.len() < racks || places.len() < slots {
+        return refused(17);
+    }
+    caps[..racks].copy_from_slice(&job.caps[..racks]);
+    places[..slots].copy_from_slice(&job.places[..slots]);
+    FileAnswer {
+        racks,
+        bytes: job.b,
+        slots,
+        place: job.place,
+        ..FileAnswer::default()
+    }
+}
+
+// ---------------------------------------------------------------------------
+// The program's listing
+
+pub fn list_job(file: &[u8], out: &mut [u8]) -> ListingAnswer {
+    let text = listing(file).unwrap_or_else(|number| {
+        let mut text = b"refused ".to_vec();
+        push_number(&mut text, number);
+        text.push(b'\n');
+        text
+    });
+    if out.len() < text.len() {
+        return ListingAnswer {
+            number: 13,
+            ..ListingAnswer::default()
+        };
+    }
+    out[..text.len()].copy_from_slice(&text);
+    ListingAnswer {
+        size: text.len(),
+        ..ListingAnswer::default()
+    }
+}
+
+/// Nothing may be written where the text does not fit, so it is made in full.
+fn listing(file: &[u8]) -> Result<Vec<u8>, usize> {
+    if file.len() > MAX_PROGRAM_FILE {
+        return Err(18);
+    }
+    let mut job = read_job(file)?;
+    let b = job.b;
+    let places = &mut job.places[..job.layout.slots];
+    let mut cards = file[job.place..].to_vec();
+    let mut text = Vec::with_capacity(64 + 2 * cards.len() + 21 * places.len());
+
+    let mut phases = Phases::new(&job.layout, places);
+    let mut count = 0;
+    let mut moves = 0;
+    loop {
+        let pairs = phases.plan(places);
+        if pairs == 0 {
+            break;
+        }
+        count += 1;
+        moves += pairs;
+        text.extend_from_slice(b"phase ");
+        push_number(&mut text, count);
+        text.push(b':');
+        for (from, to) in phases.pairs() {
+            push_pair(&mut text, from, to);
+        }
+        text.push(b'\n');
+        phases.carry(places, &mut cards, b, pairs);
+    }
+
+    text.extend_from_slice(b"copies:");
+    each_copy(places, &Coming::new(places), |from, to| {
+        push_pair(&mut text, from, to);
+    });
+    let copies = run_copies(places, &mut cards, b);
+
+    text.extend_from_slice(b"\ncards:");
+    for card in cards.chunks_exact(b) {
+        text.push(b' ');
+        for byte in card {
+            text.push(hex_digit(byte >> 4));
+            text.push(hex_digit(byte & 15));
+        }
+    }
+    text.extend_from_slice(b"\nend: phases ");
+    push_number(&mut text, count);
+    text.extend_from_slice(b" moves ");
+    push_number(&mut text, moves);
+    text.extend_from_slice(b" copies ");
+    push_number(&mut text, copies);
+    text.push(b'\n');
+    Ok(text)
+}
+
+fn push_pair(text: &mut Vec<u8>, from: u16, to: u16) {
+    text.push(b' ');
+    push_slot(text, from);
+    text.push(b'>');
+    push_slot(text, to);
+}
+
+fn push_slot(text: &mut Vec<u8>, slot: u16) {
+    if slot == HAND {
+        text.push(b'h');
+    } else {
+        push_number(text, usize::from(slot));
+    }
+}
+
+/// In decimal. No number of a listing has more than five digits.
+fn push_number(text: &mut Vec<u8>, number: usize) {
+    let mut digits = [0; 5];
+    let mut first = digits.len();
+    let mut left = number;
+    loop {
+        first -= 1;
+        digits[first] = b'0' + (left % 10) as u8;
+        left /= 10;
+        if left == 0 || first == 0 {
+            break;
+        }
+    }
+    text.extend_from_slice(&digits[first..]);
+}
+
+fn hex_digit(half: u8) -> u8 {
+    if half < 10 {
+        b'0' + half
+    } else {
+        b'a' - 10 + half
+    }
+}

@@ -1,0 +1,780 @@
+//! The rules of the scope page, written from its text and from nothing else.
+//!
+//! This is the yardstick of the differential test, so it stays simple: every
+//! phase is planned anew, every list is made in full before anything is
+//! written, and the functions carry the page's own words. Racks are i and p,
+//! slots are g, as on the page.
+
+#![allow(dead_code)]
+
+use std::fmt::Write;
+use std::ops::Range;
+
+const MAX_RACKS: usize = 64;
+const MAX_CARD: usize = 256;
+const MAX_CAPACITY: usize = 1_023;
+const MAX_TOTAL: usize = 4_032;
+const MAX_PROGRAM_FILE: usize = 32_768;
+const FREE: u16 = 65_535;
+const HAND: u16 = 65_534;
+
+#[derive(Clone, Copy, PartialEq, Eq, Debug, Default)]
+pub struct Answer {
+    pub number: usize,
+    pub phases: usize,
+    pub moves: usize,
+    pub copies: usize,
+}
+
+#[derive(Clone, Copy, PartialEq, Eq, Debug, Default)]
+pub struct SlotAnswer {
+    pub number: usize,
+    pub phases: usize,
+    pub moves: usize,
+    pub copies: usize,
+    /// 0 none, 1 user slot, 2 spare
+    pub kind: usize,
+    /// 0 none, 1 free, 2 settled, 3 on its rack but unsettled, 4 away
+    pub state: usize,
+    /// the destination's rack where the card is away, else 0
+    pub rack: usize,
+}
+
+#[derive(Clone, Copy, PartialEq, Eq, Debug, Default)]
+pub struct FileAnswer {
+    pub number: usize,
+    pub phases: usize,
+    pub moves: usize,
+    pub copies: usize,
+    /// N
+    pub racks: usize,
+    /// B
+    pub bytes: usize,
+    /// S
+    pub slots: usize,
+    /// where the card bytes begin in the file
+    pub place: usize,
+}
+
+#[derive(Clone, Copy, PartialEq, Eq, Debug, Default)]
+pub struct ListingAnswer {
+    pub number: usize,
+    pub phases: usize,
+    pub moves: usize,
+    pub copies: usize,
+    /// length of the text
+    pub size: usize,
+}
+
+/// "All counts are 0 on a refusal."
+fn refused(number: usize) -> Answer {
+    Answer {
+        number,
+        ..Answer::default()
+    }
+}
+
+// ---------------------------------------------------------------------------
+// Racks and slots
+
+/// How the slots are numbered: each rack's user slots, then its spare.
+struct Racks {
+    /// the slots of each rack, its spare the last of them
+    slots: Vec<Range<usize>>,
+    /// the rack of each slot
+    rack_of: Vec<usize>,
+}
+
+impl Racks {
+    /// Only for capacities that passed 1 and 3.
+    fn new(caps: &[u16]) -> Racks {
+        let mut slots = Vec::with_capacity(caps.len());
+        let mut rack_of = Vec::new();
+        for (p, &m) in caps.iter().enumerate() {
+            let base = rack_of.len();
+            rack_of.resize(base + usize::from(m) + 1, p);
+            slots.push(base..rack_of.len());
+        }
+        Racks { slots, rack_of }
+    }
+
+    fn number(&self) -> usize {
+        self.slots.len()
+    }
+
+    /// S
+    fn total_slots(&self) -> usize {
+        self.rack_of.len()
+    }
+
+    fn is_spare(&self, slot: usize) -> bool {
+        slot + 1 == self.slots[self.rack_of[slot]].end
+    }
+
+    fn is_user_slot(&self, slot: usize) -> bool {
+        slot < self.total_slots() && !self.is_spare(slot)
+    }
+
+    /// The rack that the card in `slot` is bound for; none where it is free.
+    fn bound_for(&self, places: &[u16], slot: usize) -> Option<usize> {
+        match places[slot] {
+            FREE => None,
+            destination => Some(self.rack_of[usize::from(destination)]),
+        }
+    }
+
+    /// The rack that the card in `slot` is away to, if it is away.
+    fn away_to(&self, places: &[u16], slot: usize) -> Option<usize> {
+        self.bound_for(places, slot)
+            .filter(|&p| p != self.rack_of[slot])
+    }
+
+    fn cards_away(&self, places: &[u16]) -> usize {
+        (0..places.len())
+            .filter(|&g| self.away_to(places, g).is_some())
+            .count()
+    }
+}
+
+// ---------------------------------------------------------------------------
+// Checks, in the order of the page's list
+
+fn check_racks(caps: &[u16]) -> Result<(), usize> {
+    if caps.is_empty() || caps.len() > MAX_RACKS {
+        return Err(1);
+    }
+    Ok(())
+}
+
+fn check_card(b: usize) -> Result<(), usize> {
+    if b == 0 || b > MAX_CARD {
+        return Err(2);
+    }
+    Ok(())
+}
+
+/// Only after 1: at most 64 capacities of 16 bits have a true sum.
+fn check_capacities(caps: &[u16]) -> Result<Racks, usize> {
+    let too_large = caps.iter().any(|&m| usize::from(m) > MAX_CAPACITY);
+    let total: usize = caps.iter().map(|&m| usize::from(m)).sum();
+    if too_large || total > MAX_TOTAL {
+        return Err(3);
+    }
+    Ok(Racks::new(caps))
+}
+
+/// 5 anywhere comes before 6 anywhere.
+fn check_entries(racks: &Racks, places: &[u16]) -> Result<(), usize> {
+    for &entry in places {
+        if entry != FREE && !racks.is_user_slot(usize::from(entry)) {
+            return Err(5);
+        }
+    }
+    check_named_once(racks, places)
+}
+
+fn check_named_once(racks: &Racks, places: &[u16]) -> Result<(), usize> {
+    let mut named = vec![false; racks.total_slots()];
+    for &entry in places.iter().filter(|&&entry| entry != FREE) {
+        if named[usize::from(entry)] {
+            return Err(6);
+        }
+        named[usize::from(entry)] = true;
+    }
+    Ok(())
+}
+
+/// 1, 3, 4, 5, 6: for the calls that are lent no cards.
+fn check_job(caps: &[u16], places: &[u16]) -> Result<Racks, usize> {
+    check_racks(caps)?;
+    let racks = check_capacities(caps)?;
+    if places.len() != racks.total_slots() {
+        return Err(4);
+    }
+    check_entries(&racks, places)?;
+    Ok(racks)
+}
+
+/// 1 to 6: for the calls that are lent the cards.
+fn check_job_with_cards(
+    caps: &[u16],
+    b: usize,
+    places: &[u16],
+    cards: &[u8],
+) -> Result<Racks, usize> {
+    check_racks(caps)?;
+    check_card(b)?;
+    let racks = check_capacities(caps)?;
+    // No overflow: S is at most 4,096 and B at most 256 here.
+    if places.len() != racks.total_slots() || cards.len() != racks.total_slots() * b {
+        return Err(4);
+    }
+    check_entries(&racks, places)?;
+    Ok(racks)
+}
+
+fn check_nothing_away(racks: &Racks, places: &[u16]) -> Result<(), usize> {
+    if racks.cards_away(places) > 0 {
+        return Err(12);
+    }
+    Ok(())
+}
+
+/// The pairs of a plan, or the steps of a copy list, to the front of a list.
+fn write_pairs(pairs: &[(u16, u16)], list: &mut [u16]) -> Result<(), usize> {
+    if list.len() < 2 * pairs.len() {
+        return Err(13);
+    }
+    for (two, &(from, to)) in list.chunks_exact_mut(2).zip(pairs) {
+        two[0] = from;
+        two[1] = to;
+    }
+    Ok(())
+}
+
+// ---------------------------------------------------------------------------
+// Phases
+
+/// For each source rack i and target p, the number of cards in i bound for p,
+/// at i times N plus p.
+fn cards_bound(racks: &Racks, places: &[u16]) -> Vec<usize> {
+    let n = racks.number();
+    let mut bound = vec![0; n * n];
+    for g in 0..places.len() {
+        if let Some(p) = racks.bound_for(places, g) {
+            bound[racks.rack_of[g] * n + p] += 1;
+        }
+    }
+    bound
+}
+
+/// One phase's pairs (from, to) by target rack, source rack, source slot.
+fn plan(racks: &Racks, places: &[u16]) -> Vec<(u16, u16)> {
+    let n = racks.number();
+    let bound = cards_bound(racks, places);
+    let mut pairs = Vec::new();
+    for p in 0..n {
+        // Free at the start of the phase: `places` does not change here.
+        let mut free_slots = racks.slots[p].clone().filter(|&g| places[g] == FREE);
+        let mut r = free_slots.clone().count();
+        for i in (0..n).filter(|&i| i != p) {
+            let granted = r.min(bound[i * n + p]);
+            r -= granted;
+            if granted == 0 {
+                continue;
+            }
+            let leaving = racks.slots[i]
+                .clone()
+                .filter(|&g| racks.bound_for(places, g) == Some(p))
+                .take(granted);
+            for (from, to) in leaving.zip(&mut free_slots) {
+                pairs.push((from as u16, to as u16));
+            }
+        }
+    }
+    pairs
+}
+
+/// The target gets the card's bytes and entry; the source becomes 65,535 and
+/// all zero.
+fn carry(b: usize, places: &mut [u16], cards: &mut [u8], from: usize, to: usize) {
+    places[to] = places[from];
+    places[from] = FREE;
+    copy_card(b, cards, from, to);
+    zero_card(b, cards, from);
+}
+
+fn copy_card(b: usize, cards: &mut [u8], from: usize, to: usize) {
+    cards.copy_within(from * b..(from + 1) * b, to * b);
+}
+
+fn zero_card(b: usize, cards: &mut [u8], slot: usize) {
+    cards[slot * b..(slot + 1) * b].fill(0);
+}
+
+// ---------------------------------------------------------------------------
+// Copies
+
+/// The steps of the copy list, the hand as 65,534. Only with nothing away.
+fn copies(places: &[u16]) -> Vec<(u16, u16)> {
+    let mut coming = vec![None; places.len()];
+    for (g, &entry) in places.iter().enumerate() {
+        if entry != FREE {
+            coming[usize::from(entry)] = Some(g);
+        }
+    }
+
+    let mut steps = Vec::new();
+    let mut seen = vec![false; places.len()];
+    for lowest in 0..places.len() {
+        if seen[lowest] {
+            continue;
+        }
+        let chain = factor(places, &coming, lowest);
+        for &g in &chain {
+            seen[g] = true;
+        }
+        if chain.len() == 1 {
+            // a settled card or a lone free slot
+            continue;
+        }
+        let (first, last) = (chain[0], chain[chain.len() - 1]);
+        let cycle = places[last] != FREE;
+        if cycle {
+            steps.push((last as u16, HAND));
+        }
+        for link in chain.windows(2).rev() {
+            steps.push((link[0] as u16, link[1] as u16));
+        }
+        if cycle {
+            steps.push((HAND, first as u16));
+        }
+    }
+    steps
+}
+
+/// The slots of the factor that `lowest` is in, each followed by the
+/// destination of its card: a shift from the slot that no card is bound for
+/// to its free end, a cycle from `lowest`.
+fn factor(places: &[u16], coming: &[Option<usize>], lowest: usize) -> Vec<usize> {
+    let mut first = lowest;
+    while let Some(before) = coming[first] {
+        first = before;
+        if first == lowest {
+            break;
+        }
+    }
+    let mut chain = vec![first];
+    let mut last = first;
+    while places[last] != FREE && usize::from(places[last]) != first {
+        last = usize::from(places[last]);
+        chain.push(last);
+    }
+    chain
+}
+
+/// Runs the copy list, then zeroes every free slot; gives the copies made.
+fn run_copies(b: usize, places: &mut [u16], cards: &mut [u8]) -> usize {
+    let steps = copies(places);
+    let mut hand = vec![0; b];
+    for &(from, to) in &steps {
+        if to == HAND {
+            let at = usize::from(from) * b;
+            hand.copy_from_slice(&cards[at..at + b]);
+        } else if from == HAND {
+            let at = usize::from(to) * b;
+            cards[at..at + b].copy_from_slice(&hand);
+        } else {
+            copy_card(b, cards, usize::from(from), usize::from(to));
+        }
+    }
+
+    let destinations: Vec<u16> = places.iter().copied().filter(|&e| e != FREE).collect();
+    places.fill(FREE);
+    for destination in destinations {
+        places[usize::from(destination)] = destination;
+    }
+    for (g, &entry) in places.iter().enumerate() {
+        if entry == FREE {
+            zero_card(b, cards, g);
+        }
+    }
+    steps.len()
+}
+
+// ---------------------------------------------------------------------------
+// The calls
+
+pub fn check_table(caps: &[u16], places: &[u16]) -> Answer {
+    match check_job(caps, places) {
+        Ok(_) => Answer::default(),
+        Err(number) => refused(number),
+    }
+}
+
+pub fn slot_question(caps: &[u16], places: &[u16], slot: usize) -> SlotAnswer {
+    let none = |number| SlotAnswer {
+        number,
+        ..SlotAnswer::default()
+    };
+    let racks = match check_job(caps, places) {
+        Ok(racks) => racks,
+        Err(number) => return none(number),
+    };
+    if slot >= racks.total_slots() {
+        return none(7);
+    }
+    let kind = if racks.is_spare(slot) { 2 } else { 1 };
+    let (state, rack) = if places[slot] == FREE {
+        (1, 0)
+    } else if usize::from(places[slot]) == slot {
+        (2, 0)
+    } else {
+        match racks.away_to(places, slot) {
+            None => (3, 0),
+            Some(p) => (4, p),
+        }
+    };
+    SlotAnswer {
+        kind,
+        state,
+        rack,
+        ..SlotAnswer::default()
+    }
+}
+
+pub fn phase_plan(caps: &[u16], places: &[u16], list: &mut [u16]) -> Answer {
+    try_phase_plan(caps, places, list).unwrap_or_else(refused)
+}
+
+fn try_phase_plan(caps: &[u16], places: &[u16], list: &mut [u16]) -> Result<Answer, usize> {
+    let racks = check_job(caps, places)?;
+    let pairs = plan(&racks, places);
+    write_pairs(&pairs, list)?;
+    Ok(Answer {
+        moves: pairs.len(),
+        ..Answer::default()
+    })
+}
+
+pub fn one_move(
+    caps: &[u16],
+    b: usize,
+    places: &mut [u16],
+    cards: &mut [u8],
+    from: usize,
+    to: usize,
+) -> Answer {
+    try_one_move(caps, b, places, cards, from, to).unwrap_or_else(refused)
+}
+
+fn try_one_move(
+    caps: &[u16],
+    b: usize,
+    places: &mut [u16],
+    cards: &mut [u8],
+    from: usize,
+    to: usize,
+) -> Result<Answer, usize> {
+    let racks = check_job_with_cards(caps, b, places, cards)?;
+    if from >= racks.total_slots() || to >= racks.total_slots() {
+        return Err(7);
+    }
+    let Some(destination_rack) = racks.bound_for(places, from) else {
+        return Err(8);
+    };
+    if destination_rack == racks.rack_of[from] {
+        return Err(9);
+    }
+    if racks.rack_of[to] != destination_rack {
+        return Err(10);
+    }
+    if places[to] != FREE {
+        return Err(11);
+    }
+    carry(b, places, cards, from, to);
+    Ok(Answer {
+        moves: 1,
+        ..Answer::default()
+    })
+}
+
+pub fn budgeted_moves(
+    caps: &[u16],
+    b: usize,
+    places: &mut [u16],
+    cards: &mut [u8],
+    k: usize,
+) -> Answer {
+    try_budgeted_moves(caps, b, places, cards, k).unwrap_or_else(refused)
+}
+
+fn try_budgeted_moves(
+    caps: &[u16],
+    b: usize,
+    places: &mut [u16],
+    cards: &mut [u8],
+    k: usize,
+) -> Result<Answer, usize> {
+    let racks = check_job_with_cards(caps, b, places, cards)?;
+    let mut moves = 0;
+    while moves < k {
+        let pairs = plan(&racks, places);
+        if pairs.is_empty() {
+            break;
+        }
+        for &(from, to) in pairs.iter().take(k - moves) {
+            carry(b, places, cards, usize::from(from), usize::from(to));
+            moves += 1;
+        }
+    }
+    Ok(Answer {
+        moves,
+        ..Answer::default()
+    })
+}
+
+pub fn copy_list(caps: &[u16], places: &[u16], list: &mut [u16]) -> Answer {
+    try_copy_list(caps, places, list).unwrap_or_else(refused)
+}
+
+fn try_copy_list(caps: &[u16], places: &[u16], list: &mut [u16]) -> Result<Answer, usize> {
+    let racks = check_job(caps, places)?;
+    check_nothing_away(&racks, places)?;
+    let steps = copies(places);
+    write_pairs(&steps, list)?;
+    Ok(Answer {
+        copies: steps.len(),
+        ..Answer::default()
+    })
+}
+
+pub fn shuffle_cards(caps: &[u16], b: usize, places: &mut [u16], cards: &mut [u8]) -> Answer {
+    try_shuffle_cards(caps, b, places, cards).unwrap_or_else(refused)
+}
+
+fn try_shuffle_cards(
+    caps: &[u16],
+    b: usize,
+    places: &mut [u16],
+    cards: &mut [u8],
+) -> Result<Answer, usize> {
+    let racks = check_job_with_cards(caps, b, places, cards)?;
+    check_nothing_away(&racks, places)?;
+    Ok(Answer {
+        copies: run_copies(b, places, cards),
+        ..Answer::default()
+    })
+}
+
+pub fn whole_run(caps: &[u16], b: usize, places: &mut [u16], cards: &mut [u8]) -> Answer {
+    try_whole_run(caps, b, places, cards).unwrap_or_else(refused)
+}
+
+fn try_whole_run(
+    caps: &[u16],
+    b: usize,
+    places: &mut [u16],
+    cards: &mut [u8],
+) -> Result<Answer, usize> {
+    let racks = check_job_with_cards(caps, b, places, cards)?;
+    let mut tally = Answer::default();
+    // Theorem 2 of the paper: a plan has pairs while a card is away.
+    loop {
+        let pairs = plan(&racks, places);
+        if pairs.is_empty() {
+            break;
+        }
+        tally.phases += 1;
+        tally.moves += pairs.len();
+        for &(from, to) in &pairs {
+            carry(b, places, cards, usize::from(from), usize::from(to));
+        }
+    }
+    tally.copies = run_copies(b, places, cards);
+    Ok(tally)
+}
+
+// ---------------------------------------------------------------------------
+// Job files
+
+/// Takes one number at a time and remembers its place in the file.
+struct Reader<'a> {
+    file: &'a [u8],
+    place: usize,
+}
+
+impl Reader<'_> {
+    fn number(&mut self) -> Result<usize, usize> {
+        let mut value = 0;
+        for group in 0..3 {
+            let Some(&byte) = self.file.get(self.place) else {
+                return Err(15);
+            };
+            self.place += 1;
+            value |= usize::from(byte & 0x7f) << (7 * group);
+            if byte & 0x80 == 0 {
+                // A last group of zero could have been left out.
+                let shortest = group == 0 || byte != 0;
+                return if shortest { Ok(value) } else { Err(14) };
+            }
+        }
+        // The third group says that another follows.
+        Err(14)
+    }
+}
+
+struct Job {
+    caps: Vec<u16>,
+    b: usize,
+    racks: Racks,
+    places: Vec<u16>,
+    /// where the card bytes begin in the file
+    place: usize,
+}
+
+/// All of the reader's checks but 17.
+fn read_job(file: &[u8]) -> Result<Job, usize> {
+    let mut reader = Reader { file, place: 0 };
+    let n = reader.number()?;
+    if n == 0 || n > MAX_RACKS {
+        return Err(1);
+    }
+    let b = reader.number()?;
+    check_card(b)?;
+
+    let mut caps = Vec::with_capacity(n);
+    let mut total = 0;
+    for _ in 0..n {
+        let m = reader.number()?;
+        total += m;
+        if m > MAX_CAPACITY || total > MAX_TOTAL {
+            return Err(3);
+        }
+        caps.push(m as u16);
+    }
+
+    let racks = Racks::new(&caps);
+    let mut places = Vec::with_capacity(racks.total_slots());
+    for _ in 0..racks.total_slots() {
+        let entry = reader.number()?;
+        if entry == 0 {
+            places.push(FREE);
+        } else if racks.is_user_slot(entry - 1) {
+            places.push((entry - 1) as u16);
+        } else {
+            return Err(5);
+        }
+    }
+    check_named_once(&racks, &places)?;
+
+    let card_bytes = racks.total_slots() * b;
+    let left = file.len() - reader.place;
+    if left < card_bytes {
+        return Err(15);
+    }
+    if left > card_bytes {
+        return Err(16);
+    }
+    Ok(Job {
+        caps,
+        b,
+        racks,
+        places,
+        place: reader.place,
+    })
+}
+
+pub fn read_file(file: &[u8], caps: &mut [u16], places: &mut [u16]) -> FileAnswer {
+    let refused = |number| FileAnswer {
+        number,
+        ..FileAnswer::default()
+    };
+    let job = match read_job(file) {
+        Ok(job) => job,
+        Err(number) => return refused(number),
+    };
+    let (n, s) = (job.caps.len(), job.places.len());
+    if caps.len() < n || places.len() < s {
+        return refused(17);
+    }
+    caps[..n].copy_from_slice(&job.caps);
+    places[..s].copy_from_slice(&job.places);
+    FileAnswer {
+        racks: n,
+        bytes: job.b,
+        slots: s,
+        place: job.place,
+        ..FileAnswer::default()
+    }
+}
+
+// ---------------------------------------------------------------------------
+// The program's listing
+
+pub fn list_job(file: &[u8], out: &mut [u8]) -> ListingAnswer {
+    let text = listing(file);
+    if out.len() < text.len() {
+        return ListingAnswer {
+            number: 13,
+            ..ListingAnswer::default()
+        };
+    }
+    out[..text.len()].copy_from_slice(text.as_bytes());
+    ListingAnswer {
+        size: text.len(),
+        ..ListingAnswer::default()
+    }
+}
+
+fn listing(file: &[u8]) -> String {
+    if file.len() > MAX_PROGRAM_FILE {
+        return refusal_line(18);
+    }
+    match read_job(file) {
+        Ok(job) => listing_of_run(job, file),
+        Err(number) => refusal_line(number),
+    }
+}
+
+fn refusal_line(number: usize) -> String {
+    format!("refused {number}\n")
+}
+
+fn listing_of_run(mut job: Job, file: &[u8]) -> String {
+    let mut cards = file[job.place..].to_vec();
+    let mut text = String::new();
+    let mut phases = 0;
+    let mut moves = 0;
+    loop {
+        let pairs = plan(&job.racks, &job.places);
+        if pairs.is_empty() {
+            break;
+        }
+        phases += 1;
+        moves += pairs.len();
+        line(&mut text, &format!("phase {phases}:"), &pairs);
+        for &(from, to) in &pairs {
+            carry(
+                job.b,
+                &mut job.places,
+                &mut cards,
+                usize::from(from),
+                usize::from(to),
+            );
+        }
+    }
+    line(&mut text, "copies:", &copies(&job.places));
+    let copies = run_copies(job.b, &mut job.places, &mut cards);
+
+    text.push_str("cards:");
+    for card in cards.chunks_exact(job.b) {
+        text.push(' ');
+        for byte in card {
+            // Writing to a String cannot fail.
+            let _ = write!(text, "{byte:02x}");
+        }
+    }
+    text.push('\n');
+    let _ = writeln!(text, "end: phases {phases} moves {moves} copies {copies}");
+    text
+}
+
+fn line(text: &mut String, head: &str, pairs: &[(u16, u16)]) {
+    text.push_str(head);
+    for &(from, to) in pairs {
+        text.push(' ');
+        slot_or_hand(text, from);
+        text.push('>');
+        slot_or_hand(text, to);
+    }
+    text.push('\n');
+}
+
+fn slot_or_hand(text: &mut String, slot: u16) {
+    if slot == HAND {
+        text.push('h');
+    } else {
+        let _ = write!(text, "{slot}");
+    }
+}

@@ -1,0 +1,306 @@
+//! The vectors, made by an implementation in another language: every line of
+//! `calls.jsonl` and every pair `shelve/NNNN.in`, `NNNN.out`.
+//!
+//! `VECTORS` names another directory of the same shape.
+
+#[path = "../benches/engine.rs"]
+mod engine;
+mod json;
+mod mover;
+mod plain;
+
+use json::Value;
+use mover::{Answer, Engine, FileAnswer, ListingAnswer, Mover, Plain, SlotAnswer};
+use std::fs;
+use std::path::PathBuf;
+
+#[test]
+fn plain_gives_the_vectors() {
+    run_calls(&Plain);
+    run_shelve(&Plain);
+}
+
+#[test]
+fn engine_gives_the_vectors() {
+    run_calls(&Engine);
+    run_shelve(&Engine);
+}
+
+fn vectors() -> PathBuf {
+    match std::env::var_os("VECTORS") {
+        Some(directory) => PathBuf::from(directory),
+        None => PathBuf::from(env!("CARGO_MANIFEST_DIR")).join("tests/data"),
+    }
+}
+
+fn run_calls(mover: &impl Mover) {
+    let text = fs::read_to_string(vectors().join("calls.jsonl")).expect("calls.jsonl");
+    let mut wrong = Vec::new();
+    let mut lines = 0;
+    for (index, line) in text.lines().enumerate() {
+        lines += 1;
+        let vector = Vector {
+            line: index + 1,
+            value: json::parse(line).unwrap_or_else(|error| panic!("line {}: {error}", index + 1)),
+        };
+        if let Err(what) = vector.run(mover) {
+            wrong.push(format!("line {}: {what}\n  {line}", index + 1));
+        }
+    }
+    assert!(lines > 0, "no vectors");
+    assert!(
+        wrong.is_empty(),
+        "{} of {lines} lines differ\n{}",
+        wrong.len(),
+        wrong.join("\n")
+    );
+    println!("{lines} calls agree");
+}
+
+/// One line of `calls.jsonl`.
+struct Vector {
+    line: usize,
+    value: Value,
+}
+
+impl Vector {
+    fn field(&self, name: &str) -> &Value {
+        self.value
+            .get(name)
+            .unwrap_or_else(|| panic!("line {}: no {name}", self.line))
+    }
+
+    fn expected(&self, name: &str) -> &Value {
+        self.field("expect")
+            .get(name)
+            .unwrap_or_else(|| panic!("line {}: no expect {name}", self.line))
+    }
+
+    fn size(&self, value: &Value) -> usize {
+        let number = value
+            .number()
+            .unwrap_or_else(|| panic!("line {}: not a number", self.line));
+        usize::try_from(number).expect("a usize of 64 bits")
+    }
+
+    fn list(&self, value: &Value) -> Vec<u16> {
+        let items = value
+            .list()
+            .unwrap_or_else(|| panic!("line {}: not a list", self.line));
+        items
+            .iter()
+            .map(|item| u16::try_from(self.size(item)).expect("16 bits"))
+            .collect()
+    }
+
+    fn bytes(&self, value: &Value) -> Vec<u8> {
+        let text = value
+            .text()
+            .unwrap_or_else(|| panic!("line {}: not a string", self.line));
+        assert!(text.len() % 2 == 0, "line {}: half a byte", self.line);
+        (0..text.len())
+            .step_by(2)
+            .map(|at| u8::from_str_radix(&text[at..at + 2], 16).expect("hex"))
+            .collect()
+    }
+
+    /// The number and the counts that every call gives.
+    fn answer(&self) -> Answer {
+        Answer {
+            number: self.size(self.expected("number")),
+            phases: self.size(self.expected("phases")),
+            moves: self.size(self.expected("moves")),
+            copies: self.size(self.expected("copies")),
+        }
+    }
+
+    fn run(&self, mover: &impl Mover) -> Result<(), String> {
+        match self.field("call").text() {
+            Some("table check") => {
+                let (caps, places) = self.table();
+                same("answer", &mover.check_table(&caps, &places), &self.answer())
+            }
+            Some("slot question") => self.run_slot_question(mover),
+            Some("phase plan") => {
+                self.run_list(|caps, places, list| mover.phase_plan(caps, places, list))
+            }
+            Some("copy list") => {
+                self.run_list(|caps, places, list| mover.copy_list(caps, places, list))
+            }
+            Some("one move") => self.run_cards(|caps, b, places, cards| {
+                let from = self.size(self.field("source"));
+                let to = self.size(self.field("target"));
+                mover.one_move(caps, b, places, cards, from, to)
+            }),
+            Some("budgeted moves") => self.run_cards(|caps, b, places, cards| {
+                mover.budgeted_moves(caps, b, places, cards, self.size(self.field("k")))
+            }),
+            Some("shuffle") => {
+                self.run_cards(|caps, b, places, cards| mover.shuffle_cards(caps, b, places, cards))
+            }
+            Some("whole run") => {
+                self.run_cards(|caps, b, places, cards| mover.whole_run(caps, b, places, cards))
+            }
+            Some("job file") => self.run_job_file(mover),
+            _ => Err("unknown call".to_string()),
+        }
+    }
+
+    fn table(&self) -> (Vec<u16>, Vec<u16>) {
+        (
+            self.list(self.field("capacities")),
+            self.list(self.field("places")),
+        )
+    }
+
+    fn run_slot_question(&self, mover: &impl Mover) -> Result<(), String> {
+        let (caps, places) = self.table();
+        let given = mover.slot_question(&caps, &places, self.size(self.field("slot")));
+        let Answer {
+            number,
+            phases,
+            moves,
+            copies,
+        } = self.answer();
+        let part = |name: &str| {
+            self.expected("slot")
+                .get(name)
+                .unwrap_or_else(|| panic!("line {}: no slot {name}", self.line))
+        };
+        let index = |name: &str, words: &[&str]| {
+            words
+                .iter()
+                .position(|&word| part(name).text() == Some(word))
+                .unwrap_or_else(|| panic!("line {}: unknown {name}", self.line))
+        };
+        let expected = SlotAnswer {
+            number,
+            phases,
+            moves,
+            copies,
+            kind: index("kind", &["none", "user", "spare"]),
+            state: index("state", &["none", "free", "settled", "unsettled", "away"]),
+            rack: self.size(part("rack")),
+        };
+        same("answer", &given, &expected)
+    }
+
+    fn run_list(&self, call: impl Fn(&[u16], &[u16], &mut [u16]) -> Answer) -> Result<(), String> {
+        let (caps, places) = self.table();
+        let mut list = self.list(self.field("lent"));
+        let given = call(&caps, &places, &mut list);
+        same("answer", &given, &self.answer())?;
+        same("lent", &list, &self.list(self.expected("lent")))
+    }
+
+    fn run_cards(
+        &self,
+        call: impl Fn(&[u16], usize, &mut [u16], &mut [u8]) -> Answer,
+    ) -> Result<(), String> {
+        let (caps, mut places) = self.table();
+        let mut cards = self.bytes(self.field("cards"));
+        let given = call(&caps, self.size(self.field("B")), &mut places, &mut cards);
+        same("answer", &given, &self.answer())?;
+        same("places", &places, &self.list(self.expected("places")))?;
+        same("cards", &cards, &self.bytes(self.expected("cards")))
+    }
+
+    fn run_job_file(&self, mover: &impl Mover) -> Result<(), String> {
+        let (mut caps, mut places) = self.table();
+        let file = self.bytes(self.field("file"));
+        let given = mover.read_file(&file, &mut caps, &mut places);
+        let Answer {
+            number,
+            phases,
+            moves,
+            copies,
+        } = self.answer();
+        let expected_bytes = self.bytes(self.expected("card_bytes"));
+        let expected = FileAnswer {
+            number,
+            phases,
+            moves,
+            copies,
+            racks: self.size(self.expected("N")),
+            bytes: self.size(self.expected("B")),
+            slots: self.size(self.expected("S")),
+            // The card bytes are the end of the file.
+            place: if number == 0 {
+                file.len() - expected_bytes.len()
+            } else {
+                0
+            },
+        };
+        same("answer", &given, &expected)?;
+        same("capacities", &caps, &self.list(self.expected("capacities")))?;
+        same("places", &places, &self.list(self.expected("places")))?;
+        let part = given.place..given.place + given.slots * given.bytes;
+        same("card bytes", &file[part].to_vec(), &expected_bytes)
+    }
+}
+
+fn same<T: PartialEq + std::fmt::Debug>(what: &str, given: &T, expected: &T) -> Result<(), String> {
+    if given == expected {
+        Ok(())
+    } else {
+        Err(format!("{what}: given {given:?}, expected {expected:?}"))
+    }
+}
+
+fn run_shelve(mover: &impl Mover) {
+    let mut jobs = 0;
+    let mut wrong = Vec::new();
+    for entry in fs::read_dir(vectors().join("shelve")).expect("shelve") {
+        let input = entry.expect("a file").path();
+        if input.extension().is_none_or(|extension| extension != "in") {
+            continue;
+        }
+        jobs += 1;
+        let file = fs::read(&input).expect("a job file");
+        let expected = fs::read(input.with_extension("out")).expect("a listing");
+        if let Err(what) = run_listing(mover, &file, &expected) {
+            wrong.push(format!("{}: {what}", input.display()));
+        }
+    }
+    assert!(jobs > 0, "no jobs");
+    assert!(
+        wrong.is_empty(),
+        "{} of {jobs} listings differ\n{}",
+        wrong.len(),
+        wrong.join("\n")
+    );
+    println!("{jobs} listings agree");
+}
+
+/// The listing into a buffer that is longer, exact, and one byte too short.
+fn run_listing(mover: &impl Mover, file: &[u8], expected: &[u8]) -> Result<(), String> {
+    const OLD: u8 = 0xa5;
+    let fits = ListingAnswer {
+        size: expected.len(),
+        ..ListingAnswer::default()
+    };
+    let too_short = ListingAnswer {
+        number: 13,
+        ..ListingAnswer::default()
+    };
+    for (length, answer) in [
+        (expected.len() + 9, fits),
+        (expected.len(), fits),
+        (expected.len() - 1, too_short),
+    ] {
+        let mut out = vec![OLD; length];
+        same("answer", &mover.list_job(file, &mut out), &answer)?;
+        let (text, rest) = out.split_at(answer.size);
+        if text != &expected[..answer.size] {
+            return Err(format!(
+                "given {}, expected {}",
+                String::from_utf8_lossy(text),
+                String::from_utf8_lossy(expected)
+            ));
+        }
+        if rest.iter().any(|&byte| byte != OLD) {
+            return Err("the buffer changed behind the text".to_string());
+        }
+    }
+    Ok(())
+}
