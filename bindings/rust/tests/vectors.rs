@@ -97,7 +97,11 @@ impl Vector {
         let text = value
             .text()
             .unwrap_or_else(|| panic!("line {}: not a string", self.line));
-        assert!(text.len() % 2 == 0, "line {}: half a byte", self.line);
+        assert!(
+            text.len().is_multiple_of(2),
+            "line {}: half a byte",
+            self.line
+        );
         (0..text.len())
             .step_by(2)
             .map(|at| u8::from_str_radix(&text[at..at + 2], 16).expect("hex"))

@@ -3,6 +3,8 @@
 
 #![allow(dead_code)]
 
+pub mod faulty;
+
 use crate::engine;
 use crate::plain;
 pub use crate::plain::{Answer, FileAnswer, ListingAnswer, SlotAnswer};
