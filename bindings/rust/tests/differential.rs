@@ -473,7 +473,7 @@ impl<'a, A: Mover, B: Mover> Compare<'a, A, B> {
     fn read_file_calls(&mut self, file: &[u8], random: &mut Random) -> Compared<FileAnswer> {
         // No more slots than bytes, in a file that is accepted.
         let room = file.len().min(4_096) + random.below(4);
-        let most = random.from_to(64, 66);
+        let most = random.between(64, 66);
         let (caps, places) = (random.list(most), random.list(room));
         let answer = self.read_file(file, &caps, &places)?;
         if answer.number == 0 {

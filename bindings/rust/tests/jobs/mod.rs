@@ -26,7 +26,7 @@ impl Random {
         (((self.next() >> 32) * end as u64) >> 32) as usize
     }
 
-    pub fn from_to(&mut self, first: usize, last: usize) -> usize {
+    pub fn between(&mut self, first: usize, last: usize) -> usize {
         first + self.below(last - first + 1)
     }
 
@@ -123,7 +123,7 @@ pub enum Size {
 pub fn legal(random: &mut Random, size: Size) -> Job {
     let caps = capacities(random, size);
     let b = match size {
-        Size::Small => random.from_to(1, 3),
+        Size::Small => random.between(1, 3),
         Size::Medium => random.pick(&[1, 2, 5, 16, 17, 31, 64, 100, 255, 256]),
         Size::Limit => random.pick(&[1, 1, 2, 6, 7, 8, 33, 256]),
     };
@@ -146,7 +146,7 @@ pub fn legal_of_length(random: &mut Random, length: usize) -> Job {
     // a slot from 127 on.
     const HEAD: usize = 2 + 2 * RACKS;
     let most = (length - HEAD) / (B + 1);
-    let slots = random.from_to(most - most / 11, most);
+    let slots = random.between(most - most / 11, most);
     let cards = length - HEAD - slots * (B + 1);
 
     let mut caps = vec![((slots - RACKS) / RACKS) as u16; RACKS];
@@ -176,11 +176,11 @@ fn capacities(random: &mut Random, size: Size) -> Vec<u16> {
     };
     match size {
         Size::Small => {
-            let (racks, largest) = (random.from_to(1, 4), random.from_to(0, 4));
+            let (racks, largest) = (random.between(1, 4), random.between(0, 4));
             list(random, racks, largest)
         }
         Size::Medium => {
-            let (racks, largest) = (random.from_to(1, 20), random.from_to(1, 30));
+            let (racks, largest) = (random.between(1, 20), random.between(1, 30));
             list(random, racks, largest)
         }
         Size::Limit => match random.below(10) {
@@ -244,7 +244,7 @@ fn places(random: &mut Random, caps: &[u16]) -> Vec<u16> {
             for &g in &destinations {
                 places[usize::from(g)] = g;
             }
-            for _ in 0..random.from_to(1, 4) {
+            for _ in 0..random.between(1, 4) {
                 places.swap(random.below(slots), random.below(slots));
             }
         }
@@ -288,7 +288,7 @@ pub fn damage(random: &mut Random, job: &mut Job) {
             }
             let twice = random.pick(&users);
             let g = any_slot(random);
-            let h = (g + random.from_to(1, slots - 1)) % slots;
+            let h = (g + random.between(1, slots - 1)) % slots;
             job.places[g] = twice;
             job.places[h] = twice;
         }
@@ -331,14 +331,14 @@ pub fn damage(random: &mut Random, job: &mut Job) {
         // the total too large, by one or by far
         10 => {
             job.caps = match random.below(4) {
-                0 => vec![1_023; random.from_to(4, 64)],
+                0 => vec![1_023; random.between(4, 64)],
                 1 => vec![1_023, 1_023, 1_023, 964],
                 2 => {
                     let mut caps = vec![63; 64];
                     caps[random.below(64)] = 64;
                     caps
                 }
-                _ => vec![65_535; random.from_to(1, 64)],
+                _ => vec![65_535; random.between(1, 64)],
             };
             // Only the total may be wrong: lengths fit now and then.
             let total = slot_count(&job.caps);
@@ -368,7 +368,7 @@ pub fn damage(random: &mut Random, job: &mut Job) {
 /// A table of anything, with lengths that fit or not.
 pub fn garbage(random: &mut Random) -> Job {
     let racks = match random.below(20) {
-        0 => random.from_to(60, 70),
+        0 => random.between(60, 70),
         1 => random.below(2_000),
         _ => random.below(7),
     };
@@ -385,12 +385,12 @@ pub fn garbage(random: &mut Random) -> Job {
     let b = if random.once_in(3) {
         random.number(256)
     } else {
-        random.from_to(1, 4)
+        random.between(1, 4)
     };
     let length = if random.once_in(4) {
         random.below(30)
     } else if random.once_in(2_000) {
-        random.from_to(60_000, 70_000)
+        random.between(60_000, 70_000)
     } else {
         slot_count(&caps).min(5_000)
     };
@@ -517,7 +517,7 @@ pub fn damaged_file(random: &mut Random, job: &Job) -> Vec<u8> {
     match random.below(8) {
         0 | 1 => file.truncate(random.below(file.len() + 1)),
         2 => {
-            let more = random.from_to(1, 3);
+            let more = random.between(1, 3);
             file.extend(random.bytes(more));
         }
         3 if !file.is_empty() => {

@@ -82,12 +82,16 @@ impl<M: Mover> Mover for Faulty<M> {
         from: usize,
         to: usize,
     ) -> Answer {
-        let old = cards.to_vec();
+        let old_cards = if self.fault == 6 {
+            cards.to_vec()
+        } else {
+            Vec::new()
+        };
         let mut answer = self.inner.one_move(caps, b, places, cards, from, to);
         // The source's last byte is not zeroed.
         if self.fault == 6 && answer.number == 0 {
             let last = from * b + b - 1;
-            cards[last] = old[last];
+            cards[last] = old_cards[last];
         }
         // 11 before 10.
         if self.fault == 7 && answer.number == 10 && places[to] != FREE {

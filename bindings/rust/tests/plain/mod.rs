@@ -89,7 +89,8 @@ impl Racks {
     /// Only for capacities that passed 1 and 3.
     fn new(caps: &[u16]) -> Racks {
         let mut slots = Vec::with_capacity(caps.len());
-        let mut rack_of = Vec::new();
+        let total: usize = caps.iter().map(|&m| usize::from(m)).sum();
+        let mut rack_of = Vec::with_capacity(total + caps.len());
         for (p, &m) in caps.iter().enumerate() {
             let base = rack_of.len();
             rack_of.resize(base + usize::from(m) + 1, p);
