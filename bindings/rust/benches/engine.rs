@@ -10,6 +10,9 @@
 
 #![allow(dead_code)]
 
+use std::cmp::Ordering;
+use std::ops::Range;
+
 const RACKS: usize = 64;
 const SLOTS: usize = 4_096;
 const MAX_CARD: usize = 256;
@@ -116,7 +119,7 @@ impl Layout {
     }
 
     #[inline]
-    fn range(&self, p: usize) -> std::ops::Range<usize> {
+    fn range(&self, p: usize) -> Range<usize> {
         usize::from(self.base[p])..usize::from(self.base[p + 1])
     }
 
@@ -249,56 +252,54 @@ fn check_nothing_away(layout: &Layout, places: &[u16]) -> Result<(), usize> {
 // ---------------------------------------------------------------------------
 // Cards
 
-/// Through a local array: no overlap test, and vector loads and stores.
+/// Copies W bytes through a local array: no overlap test, no call, and for the
+/// larger ones vector loads and stores.
 #[inline(always)]
 fn copy_fixed<const W: usize>(cards: &mut [u8], from: usize, to: usize) {
-    let mut card = [0; W];
-    card.copy_from_slice(&cards[from..from + W]);
-    cards[to..to + W].copy_from_slice(&card);
+    let mut part = [0; W];
+    part.copy_from_slice(&cards[from..from + W]);
+    cards[to..to + W].copy_from_slice(&part);
+}
+
+/// A card of W to 2W bytes: its first W and its last W, which may overlap.
+#[inline(always)]
+fn copy_ends<const W: usize>(cards: &mut [u8], b: usize, from: usize, to: usize) {
+    copy_fixed::<W>(cards, from, to);
+    copy_fixed::<W>(cards, from + b - W, to + b - W);
 }
 
 #[inline(always)]
 fn copy_card(cards: &mut [u8], b: usize, from: usize, to: usize) {
-    const STEP: usize = 16;
     let (from, to) = (from * b, to * b);
     match b {
         1 => cards[to] = cards[from],
-        2 => copy_fixed::<2>(cards, from, to),
-        4 => copy_fixed::<4>(cards, from, to),
-        8 => copy_fixed::<8>(cards, from, to),
-        16 => copy_fixed::<16>(cards, from, to),
-        32 => copy_fixed::<32>(cards, from, to),
-        64 => copy_fixed::<64>(cards, from, to),
-        _ if b < STEP => {
-            for i in 0..b {
-                cards[to + i] = cards[from + i];
-            }
-        }
-        _ if b < 8 * STEP => {
-            let mut i = 0;
-            while i + STEP < b {
-                copy_fixed::<STEP>(cards, from + i, to + i);
-                i += STEP;
-            }
-            // The last step may copy some bytes a second time.
-            copy_fixed::<STEP>(cards, from + b - STEP, to + b - STEP);
-        }
+        2 | 3 => copy_ends::<2>(cards, b, from, to),
+        4..=7 => copy_ends::<4>(cards, b, from, to),
+        8..=15 => copy_ends::<8>(cards, b, from, to),
+        16..=31 => copy_ends::<16>(cards, b, from, to),
+        32..=64 => copy_ends::<32>(cards, b, from, to),
         _ => cards.copy_within(from..from + b, to),
     }
 }
 
 #[inline(always)]
+fn zero_ends<const W: usize>(card: &mut [u8]) {
+    let b = card.len();
+    card[..W].fill(0);
+    card[b - W..].fill(0);
+}
+
+#[inline(always)]
 fn zero_card(cards: &mut [u8], b: usize, slot: usize) {
-    let at = slot * b;
+    let card = &mut cards[slot * b..(slot + 1) * b];
     match b {
-        1 => cards[at] = 0,
-        2 => cards[at..at + 2].fill(0),
-        4 => cards[at..at + 4].fill(0),
-        8 => cards[at..at + 8].fill(0),
-        16 => cards[at..at + 16].fill(0),
-        32 => cards[at..at + 32].fill(0),
-        64 => cards[at..at + 64].fill(0),
-        _ => cards[at..at + b].fill(0),
+        1 => card[0] = 0,
+        2 | 3 => zero_ends::<2>(card),
+        4..=7 => zero_ends::<4>(card),
+        8..=15 => zero_ends::<8>(card),
+        16..=31 => zero_ends::<16>(card),
+        32..=64 => zero_ends::<32>(card),
+        _ => card.fill(0),
     }
 }
 
@@ -318,10 +319,26 @@ struct Phases {
     end: [u16; RACKS],
     /// How many cards of p's queue the present plan moves.
     granted: [u16; RACKS],
-    /// Free slots that no plan has given away.
+    /// How many free slots of p no plan has given away, which they are, a bit
+    /// for each slot, and a mark below which p has none.
     free: [u16; RACKS],
-    /// No slot of p below this is free when a phase begins.
+    free_bits: [u64; SLOTS / 64],
     low: [u16; RACKS],
+}
+
+/// Takes the lowest free slot at or above `low`. There is one: a rack grants
+/// no more cards than it has free slots.
+#[inline(always)]
+fn take_lowest(free_bits: &mut [u64; SLOTS / 64], low: usize) -> usize {
+    let mut word = low / 64 % (SLOTS / 64);
+    let mut bits = free_bits[word] & (!0 << (low % 64));
+    while bits == 0 {
+        word += 1;
+        bits = free_bits[word];
+    }
+    let lowest = bits & bits.wrapping_neg();
+    free_bits[word] ^= lowest;
+    64 * word + lowest.trailing_zeros() as usize
 }
 
 impl Phases {
@@ -336,6 +353,7 @@ impl Phases {
             end: [0; RACKS],
             granted: [0; RACKS],
             free: [0; RACKS],
+            free_bits: [0; SLOTS / 64],
             low: [0; RACKS],
         };
         layout.fill_racks(&mut phases.rack_of);
@@ -358,22 +376,21 @@ impl Phases {
             }
             phases.free[p] = free;
         }
+        for (bits, entries) in phases.free_bits.iter_mut().zip(places.chunks(64)) {
+            for (bit, &entry) in entries.iter().enumerate() {
+                *bits |= u64::from(entry == FREE) << bit;
+            }
+        }
         phases
-    }
-
-    /// How many cards the next phase moves to p.
-    #[inline]
-    fn grant(&self, p: usize) -> u16 {
-        (self.end[p] - self.next[p]).min(self.free[p])
     }
 
     /// Plans a phase and gives the number of its pairs. No card moves here, so
     /// slots that empty in this phase are not taken in it.
     #[inline]
-    fn plan(&mut self, places: &[u16]) -> usize {
+    fn plan(&mut self) -> usize {
         let mut pairs = 0;
         for p in 0..self.racks {
-            let granted = self.grant(p);
+            let granted = (self.end[p] - self.next[p]).min(self.free[p]);
             self.granted[p] = granted;
             if granted == 0 {
                 continue;
@@ -383,22 +400,25 @@ impl Phases {
             let next = usize::from(self.next[p]);
             let mut slot = usize::from(self.low[p]);
             for target in &mut self.target[next..next + usize::from(granted)] {
-                while places[slot] != FREE {
-                    slot += 1;
-                }
+                slot = take_lowest(&mut self.free_bits, slot);
                 *target = slot as u16;
-                slot += 1;
             }
             self.low[p] = slot as u16;
         }
         pairs
     }
 
+    /// Where the cards of the present plan stand in p's queue.
+    #[inline]
+    fn present(&self, p: usize) -> Range<usize> {
+        let next = usize::from(self.next[p]);
+        next..next + usize::from(self.granted[p])
+    }
+
     /// The pairs of the present plan, in plan order.
     fn pairs(&self) -> impl Iterator<Item = (u16, u16)> + '_ {
         (0..self.racks).flat_map(move |p| {
-            let next = usize::from(self.next[p]);
-            let range = next..next + usize::from(self.granted[p]);
+            let range = self.present(p);
             self.queue[range.clone()]
                 .iter()
                 .copied()
@@ -423,6 +443,7 @@ impl Phases {
                 zero_card(cards, b, from);
                 let source = usize::from(self.rack_of[from & SLOT_MASK]) & RACK_MASK;
                 self.free[source] += 1;
+                self.free_bits[from / 64 % (SLOTS / 64)] |= 1 << (from % 64);
                 self.low[source] = self.low[source].min(from as u16);
             }
             self.next[p] += granted as u16;
@@ -488,6 +509,22 @@ fn each_copy(places: &[u16], coming: &Coming, mut step: impl FnMut(u16, u16)) {
     }
 }
 
+/// A list of the slots that something holds for, made without a branch for
+/// each slot: on a table half full such a branch is a coin toss.
+struct Chosen([u16; SLOTS]);
+
+impl Chosen {
+    #[inline(always)]
+    fn slots(&mut self, slots: usize, holds: impl Fn(usize) -> bool) -> &[u16] {
+        let mut chosen = 0;
+        for g in 0..slots {
+            self.0[chosen & SLOT_MASK] = g as u16;
+            chosen += usize::from(holds(g));
+        }
+        &self.0[..chosen]
+    }
+}
+
 /// The shuffle. The factors do not touch each other, so what is left does not
 /// depend on their order: shifts first, from each free end backwards; what is
 /// unsettled after them lies in cycles.
@@ -495,11 +532,12 @@ fn each_copy(places: &[u16], coming: &Coming, mut step: impl FnMut(u16, u16)) {
 fn run_copies(places: &mut [u16], cards: &mut [u8], b: usize) -> usize {
     let coming = Coming::new(places);
     let mut copies = 0;
-    for end in 0..places.len() {
-        if places[end] != FREE || coming.to(end) == NONE {
-            continue;
-        }
-        let mut to = end;
+    let mut chosen = Chosen([0; SLOTS]);
+
+    for &end in chosen.slots(places.len(), |g| {
+        (places[g] == FREE) & (coming.to(g) != NONE)
+    }) {
+        let mut to = usize::from(end);
         loop {
             let from = coming.to(to);
             if from == NONE {
@@ -514,8 +552,12 @@ fn run_copies(places: &mut [u16], cards: &mut [u8], b: usize) -> usize {
     }
 
     let mut hand = [0; MAX_CARD];
-    for first in 0..places.len() {
-        if places[first] == FREE || usize::from(places[first]) == first {
+    for &first in chosen.slots(places.len(), |g| {
+        (places[g] != FREE) & (usize::from(places[g]) != g)
+    }) {
+        let first = usize::from(first);
+        if usize::from(places[first]) == first {
+            // settled by the cycle of a lower slot
             continue;
         }
         let mut to = usize::from(coming.to(first));
@@ -532,10 +574,8 @@ fn run_copies(places: &mut [u16], cards: &mut [u8], b: usize) -> usize {
         copies += 2;
     }
 
-    for (slot, &entry) in places.iter().enumerate() {
-        if entry == FREE {
-            zero_card(cards, b, slot);
-        }
+    for &slot in chosen.slots(places.len(), |g| places[g] == FREE) {
+        zero_card(cards, b, usize::from(slot));
     }
     copies
 }
@@ -587,26 +627,23 @@ pub fn phase_plan(caps: &[u16], places: &[u16], list: &mut [u16]) -> Answer {
         Ok(layout) => layout,
         Err(number) => return refused(number),
     };
-    let phases = Phases::new(&layout, places);
-    let moves = (0..layout.racks)
-        .map(|p| usize::from(phases.grant(p)))
-        .sum::<usize>();
+    let mut phases = Phases::new(&layout, places);
+    let moves = phases.plan();
     if list.len() < 2 * moves {
         return refused(13);
     }
-    let mut pairs = list.chunks_exact_mut(2);
+    // Rack by rack, not over `pairs`: one flat loop costs twice as much.
+    let mut written = 0;
     for p in 0..layout.racks {
-        let granted = usize::from(phases.grant(p));
-        let next = usize::from(phases.next[p]);
-        let mut slot = next;
-        for (&from, pair) in phases.queue[next..next + granted].iter().zip(&mut pairs) {
-            while places[slot] != FREE {
-                slot += 1;
-            }
-            pair[0] = from;
-            pair[1] = slot as u16;
-            slot += 1;
+        let range = phases.present(p);
+        let pairs = phases.queue[range.clone()]
+            .iter()
+            .zip(&phases.target[range]);
+        for ((&from, &to), two) in pairs.zip(list[written..].chunks_exact_mut(2)) {
+            two[0] = from;
+            two[1] = to;
         }
+        written += 2 * usize::from(phases.granted[p]);
     }
     Answer {
         moves,
@@ -668,7 +705,7 @@ pub fn budgeted_moves(
     if k > 0 {
         let mut phases = Phases::new(&layout, places);
         while moves < k {
-            let pairs = phases.plan(places);
+            let pairs = phases.plan();
             if pairs == 0 {
                 break;
             }
@@ -734,7 +771,7 @@ pub fn whole_run(caps: &[u16], b: usize, places: &mut [u16], cards: &mut [u8]) -
     let mut tally = Answer::default();
     let mut phases = Phases::new(&layout, places);
     loop {
-        let pairs = phases.plan(places);
+        let pairs = phases.plan();
         if pairs == 0 {
             break;
         }
@@ -836,9 +873,9 @@ fn read_job(file: &[u8]) -> Result<Job, usize> {
     let left = file.len() - place;
     let wanted = layout.slots * b;
     match left.cmp(&wanted) {
-        std::cmp::Ordering::Less => Err(15),
-        std::cmp::Ordering::Greater => Err(16),
-        std::cmp::Ordering::Equal => Ok(Job {
+        Ordering::Less => Err(15),
+        Ordering::Greater => Err(16),
+        Ordering::Equal => Ok(Job {
             layout,
             caps,
             b,
@@ -910,7 +947,7 @@ fn listing(file: &[u8]) -> Result<Vec<u8>, usize> {
     let mut count = 0;
     let mut moves = 0;
     loop {
-        let pairs = phases.plan(places);
+        let pairs = phases.plan();
         if pairs == 0 {
             break;
         }
