@@ -632,7 +632,7 @@ pub fn phase_plan(caps: &[u16], places: &[u16], list: &mut [u16]) -> Answer {
     if list.len() < 2 * moves {
         return refused(13);
     }
-    // Rack by rack, not over `pairs`: one flat loop costs twice as much.
+    // Rack by rack and not over `pairs`: a tenth faster.
     let mut written = 0;
     for p in 0..layout.racks {
         let range = phases.present(p);

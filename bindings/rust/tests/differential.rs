@@ -157,6 +157,7 @@ struct Seen([[u64; NUMBERS]; ROWS.len()]);
 
 impl Seen {
     fn add(&mut self, row: Row, number: usize) {
+        assert!(number < NUMBERS, "{row:?} gives {number}");
         self.0[row as usize][number] += 1;
     }
 
@@ -338,22 +339,22 @@ impl<'a, A: Mover, B: Mover> Compare<'a, A, B> {
     fn check_table(&mut self, job: &Job) -> Compared<Answer> {
         let a = self.a.check_table(&job.caps, &job.places);
         let b = self.b.check_table(&job.caps, &job.places);
-        self.seen.add(Row::CheckTable, a.number);
         if a != b {
             let lent = (&job.caps, &job.places);
             return Err(difference(&Row::CheckTable, &lent, "the answer", &a, &b));
         }
+        self.seen.add(Row::CheckTable, a.number);
         Ok(a)
     }
 
     fn slot_question(&mut self, job: &Job, slot: usize) -> Compared<SlotAnswer> {
         let a = self.a.slot_question(&job.caps, &job.places, slot);
         let b = self.b.slot_question(&job.caps, &job.places, slot);
-        self.seen.add(Row::SlotQuestion, a.number);
         if a != b {
             let lent = (&job.caps, &job.places, slot);
             return Err(difference(&Row::SlotQuestion, &lent, "the answer", &a, &b));
         }
+        self.seen.add(Row::SlotQuestion, a.number);
         Ok(a)
     }
 
@@ -363,7 +364,6 @@ impl<'a, A: Mover, B: Mover> Compare<'a, A, B> {
         refill(&mut self.lent_b.list, old);
         let a = call.run(self.a, job, &mut self.lent_a.list);
         let b = call.run(self.b, job, &mut self.lent_b.list);
-        self.seen.add(call.row(), a.number);
         let lent = (&job.caps, &job.places, old);
         if a != b {
             return Err(difference(&call, &lent, "the answer", &a, &b));
@@ -376,6 +376,7 @@ impl<'a, A: Mover, B: Mover> Compare<'a, A, B> {
         if list_a[written..] != old[written..] {
             return Err(difference(&call, &lent, "what must stay", list_a, &old));
         }
+        self.seen.add(call.row(), a.number);
         Ok(a)
     }
 
@@ -404,7 +405,6 @@ impl<'a, A: Mover, B: Mover> Compare<'a, A, B> {
         }
         let a = call.run(self.a, job, &mut self.lent_a);
         let b = call.run(self.b, job, &mut self.lent_b);
-        self.seen.add(call.row(), a.number);
         let lent = (&job.caps, job.b, &job.places, &job.cards);
         if a != b {
             return Err(difference(&call, &lent, "the answer", &a, &b));
@@ -426,6 +426,7 @@ impl<'a, A: Mover, B: Mover> Compare<'a, A, B> {
                 cards_a,
             ));
         }
+        self.seen.add(call.row(), a.number);
         Ok(a)
     }
 
@@ -448,7 +449,6 @@ impl<'a, A: Mover, B: Mover> Compare<'a, A, B> {
         let (lent_a, lent_b) = (&mut self.lent_a, &mut self.lent_b);
         let a = self.a.read_file(file, &mut lent_a.caps, &mut lent_a.places);
         let b = self.b.read_file(file, &mut lent_b.caps, &mut lent_b.places);
-        self.seen.add(Row::ReadFile, a.number);
         let row = Row::ReadFile;
         let lent = (file, caps, places);
         if a != b {
@@ -466,6 +466,7 @@ impl<'a, A: Mover, B: Mover> Compare<'a, A, B> {
         if caps_a[a.racks..] != caps[a.racks..] || places_a[a.slots..] != places[a.slots..] {
             return Err(difference(&row, &lent, "what must stay", caps_a, places_a));
         }
+        self.seen.add(Row::ReadFile, a.number);
         Ok(a)
     }
 
@@ -496,7 +497,6 @@ impl<'a, A: Mover, B: Mover> Compare<'a, A, B> {
         let a = self.a.list_job(file, out_a);
         let b = self.b.list_job(file, out_b);
         let row = Row::ListJob;
-        self.seen.add(row, a.number);
         let lent = (file, room);
         if a != b {
             return Err(difference(&row, &lent, "the answer", &a, &b));
@@ -511,6 +511,7 @@ impl<'a, A: Mover, B: Mover> Compare<'a, A, B> {
         if out_a[a.size..].iter().any(|&byte| byte != old) {
             return Err(difference(&row, &lent, "what must stay", &a, out_a));
         }
+        self.seen.add(row, a.number);
         if a.number == 0 {
             let number = refusal_in(&out_a[..a.size]);
             self.seen.add(Row::ListingText, number);
@@ -630,7 +631,7 @@ fn all_calls<A: Mover, B: Mover>(
     compare.slot_question(job, random.number(slots))?;
     compare.list_calls(ListCall::PhasePlan, job, random)?;
     compare.list_calls(ListCall::CopyList, job, random)?;
-    compare.cards_call(any_move(random, slots), job)?;
+    compare.cards_call(any_move(random, job), job)?;
     let k = random.number(slots);
     compare.cards_call(CardsCall::BudgetedMoves { k }, job)?;
     compare.cards_call(CardsCall::Shuffle, job)?;
@@ -638,18 +639,24 @@ fn all_calls<A: Mover, B: Mover>(
     Ok(())
 }
 
-fn any_move(random: &mut Random, slots: usize) -> CardsCall {
-    if random.once_in(4) {
-        CardsCall::OneMove {
+/// A move of anything to anywhere, often to somewhere near the card's
+/// destination: that is where moves succeed, or fail late in the list.
+fn any_move(random: &mut Random, job: &Job) -> CardsCall {
+    let slots = job.places.len();
+    if random.once_in(6) {
+        return CardsCall::OneMove {
             from: random.number(slots),
             to: random.number(slots),
-        }
-    } else {
-        CardsCall::OneMove {
-            from: random.below(slots + 1),
-            to: random.below(slots + 1),
-        }
+        };
     }
+    let from = random.below(slots + 1);
+    let to = match job.places.get(from) {
+        Some(&entry) if entry != FREE && !random.once_in(3) => {
+            (usize::from(entry) + random.below(5)).saturating_sub(2)
+        }
+        _ => random.below(slots + 1),
+    };
+    CardsCall::OneMove { from, to }
 }
 
 /// Calls one after another on the same table, until the run is over.
@@ -666,7 +673,7 @@ fn call_sequence<A: Mover, B: Mover>(
         match random.below(8) {
             0 => carry_a_plan(compare, random, job)?,
             1..=3 => {
-                compare.cards_call_and_keep(any_move(random, slots), job)?;
+                compare.cards_call_and_keep(any_move(random, job), job)?;
             }
             4 => {
                 let k = random.below(5);
