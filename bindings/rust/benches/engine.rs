@@ -1,6 +1,6 @@
 //! The calls of `tests/plain` written for speed, without any proof: what a
-//! benchmark holds the proved library against. Safe Rust, nothing on the heap
-//! but the text of a listing.
+//! benchmark holds the proved library against. Safe Rust, and nothing on the
+//! heap but in a listing.
 //!
 //! No phase is planned from the table anew. A card that is away moves only to
 //! its rack, so who arrives at a rack, and in which order, is fixed when a
