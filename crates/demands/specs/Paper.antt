@@ -26,7 +26,7 @@ use Rattle.runs.specs.Run.{gathered, hasPairs, counts}
 use Rattle.jobfile.specs.Number.{groups, number, numbers}
 use Rattle.jobfile.specs.File.{wrongN, wrongB, wrongM, wrongEntry, entryOf, readN, readB, readM, fileRacks, readEntries, fileBytes, filePlaces, fileCards, fileChecks}
 use Rattle.listing.specs.Text.{digit, digits, decimal, hex}
-use Rattle.listing.specs.Listing.{slotText, arrow, phaseLines, copiesLine, cardText, cardsLine, endLine, refusedLine, programChecks, fileHeld, fileGathered, runText, listing}
+use Rattle.listing.specs.Listing.{slotText, arrow, phaseLines, copiesLine, cardText, cardsLine, endLine, refusedLine, programChecks, fileHeld, runText, listing}
 
 -- case 1: the racks, the table and the cards
 abbrev racks1 : List Rack
@@ -125,5 +125,5 @@ pub record Paper : Type 0 where
   pub eight-long : refusesNumber (0x80 ∷ 0x80 ∷ 0x80 ∷ []) 14
 
 pub paper : Paper
-unfolding _and_ _or_ sum count some select seek table join each pairUp flat matching among last first ofCaps rackAt users width total base slots endsBy rackOf spareOf isUser free settled rackTo onRack away aways awayTo bound owes freeOn names badCount badBytes tooLarge badSize badPlaces badCards badEntry badEntries repeats badTwice noSlot sourceFree sourceHome elsewhere targetTaken someAway tooShort tableChecks cardChecks checked other sources lowest granted openSlots room arrivals planFor plan block putBlock blank movedPlaces movedCards carriedPlaces carriedCards endChecks moveChecks moved phasesFrom phases budget budgeted next source after onward back onCycle head factor factorsFrom factors shift cycle copies copyList taken laid runCopies brought isNamed lastEntry lastCard settledHeld gathered hasPairs counts groups number numbers wrongN wrongB wrongM wrongEntry entryOf readN readB readM fileRacks readEntries fileBytes filePlaces fileCards fileChecks digit digits decimal hex slotText arrow phaseLines copiesLine cardText cardsLine endLine refusedLine programChecks fileHeld fileGathered runText listing
+unfolding _and_ _or_ sum count some select seek table join each pairUp flat matching among last first ofCaps rackAt users width total base slots endsBy rackOf spareOf isUser free settled rackTo onRack away aways awayTo bound owes freeOn names badCount badBytes tooLarge badSize badPlaces badCards badEntry badEntries repeats badTwice noSlot sourceFree sourceHome elsewhere targetTaken someAway tooShort tableChecks cardChecks checked other sources lowest granted openSlots room arrivals planFor plan block putBlock blank movedPlaces movedCards carriedPlaces carriedCards endChecks moveChecks moved phasesFrom phases budget budgeted next source after onward back onCycle head factor factorsFrom factors shift cycle copies copyList taken laid runCopies brought isNamed lastEntry lastCard settledHeld gathered hasPairs counts groups number numbers wrongN wrongB wrongM wrongEntry entryOf readN readB readM fileRacks readEntries fileBytes filePlaces fileCards fileChecks digit digits decimal hex slotText arrow phaseLines copiesLine cardText cardsLine endLine refusedLine programChecks fileHeld runText listing
 paper = record { shelve = refl; budget4 = refl; one-left = refl; budget0 = refl; budget9 = refl; three = (refl, refl); four = (refl, refl); five = (refl, refl); six-10 = refl; six-8 = refl; six-7 = refl; six-11 = refl; six-9 = refl; seven-spare = refl; seven-twice = refl; seven-both = refl; eight-128 = refl; eight-16384 = refl; eight-padded = refl; eight-cut = refl; eight-long = refl }

@@ -3,3 +3,8 @@ pub mod Digits
 pub mod Arrows
 pub mod Cards
 pub mod Lines
+pub mod Phasing
+pub mod Enough
+pub mod Refusals
+pub mod Texts
+pub mod Files

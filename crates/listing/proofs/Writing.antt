@@ -6,6 +6,7 @@ use native.Mathlib.Omega.{arith}
 use lib.ListN.{length, take, getD, set, length-append}
 use lib.Seq.{sets, length-sets, take-all}
 use Rattle.counting.proofs.Stores.{sets-append, sets-take}
+use Rattle.copies.proofs.Writing.{take-front}
 use Rattle.listing.specs.Writing.{Room, Wrote}
 
 -- what fits, its first part fits
@@ -16,6 +17,10 @@ module _ {a l m : List ℕ} {i j : ℕ} where
   -- text keeps the length of the buffer
   pub wrote-length : Wrote a l i m j → length m ≡ length l
   wrote-length w = ap length (w .stored) ∙ length-sets l i a
+
+  -- text at the front of the buffer is what stands before the position behind it
+  pub wrote-front : Wrote a l i m j → i ≡ 0 → length a ≤ length l → take j m ≡ a
+  wrote-front w z h = rw (w .stored, z) (take-front l a j (omega (arith, w .behind)) (omega (arith, w .behind)))
 
   -- what fits, its second part fits behind the first
   pub room-next : (b : List ℕ) → Wrote a l i m j → Room (a ++ b) i l → Room b j m

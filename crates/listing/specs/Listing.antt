@@ -7,7 +7,7 @@ use Rattle.counting.specs.Tests.{pick}
 use Rattle.counting.specs.Lists.{Pair, table, join, each}
 use Rattle.counting.specs.Checks.{Check, first, done}
 use Rattle.racks.specs.Limits.{HAND}
-use Rattle.racks.specs.Racks.{slots}
+use Rattle.racks.specs.Racks.{Rack, slots}
 use Rattle.racks.specs.Numbers.{tooShort}
 use Rattle.racks.specs.Answers.{answer, noCounts, written}
 use Rattle.racks.specs.declared.Tally.{Tally}
@@ -64,28 +64,28 @@ refusedLine n = text "refused " ++ decimal n ++ text "\n"
 unfoldable pub programChecks : List ℕ → List Check
 programChecks file = (ltb FILE (length file), 18) ∷ fileChecks file
 
-module _ (file : List ℕ) where
-  -- the table and the cards of the file
-  unfoldable pub fileHeld : Held
-  fileHeld = record { places = filePlaces file; cards = fileCards file }
+-- the table and the cards of the file
+unfoldable pub fileHeld : List ℕ → Held
+fileHeld file = record { places = filePlaces file; cards = fileCards file }
 
-  -- the table and the cards after all phases
-  unfoldable pub fileGathered : Held
-  fileGathered = gathered (fileRacks file) (fileBytes file) fileHeld
+-- a run: phases, copies, cards, end
+unfoldable pub runText : List Rack → ℕ → Held → List ℕ
+runText racks b h =
+    phaseLines 1 (phases racks (h .places))
+    ++ copiesLine (copyList (gathered racks b h .places))
+    ++ cardsLine (slots racks) b (settledHeld racks b (gathered racks b h) .cards)
+    ++ endLine (counts racks b h)
 
-  -- a run: phases, copies, cards, end
-  unfoldable pub runText : List ℕ
-  runText =
-      phaseLines 1 (phases (fileRacks file) (filePlaces file))
-      ++ copiesLine (copyList (fileGathered .places))
-      ++ cardsLine (slots (fileRacks file)) (fileBytes file) (settledHeld (fileRacks file) (fileBytes file) fileGathered .cards)
-      ++ endLine (counts (fileRacks file) (fileBytes file) fileHeld)
+-- **shelve**: the text that it prints for a file
+unfoldable pub listing : List ℕ → List ℕ
+listing file =
+    let n = first (programChecks file) in
+    pick (done n) (runText (fileRacks file) (fileBytes file) (fileHeld file)) (refusedLine n)
 
-  -- **shelve**: the text that it prints for a file
-  unfoldable pub listing : List ℕ
-  listing =
-      let n = first (programChecks file) in
-      pick (done n) runText (refusedLine n)
+-- a buffer of so many bytes is long enough for every text (`listing-enough`): at most 4,096 phases of 13 bytes, 4,096 moves and 6,144 copies of
+-- 12, a byte for each of 4,096 slots, two for each byte of the file, and 58 for the rest of the lines
+abbrev pub ENOUGH : ℕ
+ENOUGH = 245818
 
 -- the outcome of listing into a lent buffer: the number, how many bytes the text has, and the buffer at exit
 pub record Printed : Type 0 where
@@ -93,9 +93,12 @@ pub record Printed : Type 0 where
   pub size : ℕ
   pub lent : List ℕ
 
--- **The listing as a call.** A text that says `refused` is written like any other; 13 where the buffer is too short for the text
-unfoldable pub printed : List ℕ → List ℕ → Printed
-printed file lent =
-    let out = listing file in
+-- a text put into a lent buffer; 13 where that is too short for it
+unfoldable pub handedOver : List ℕ → List ℕ → Printed
+handedOver out lent =
     let n = first ((tooShort lent out, 13) ∷ []) in
     record { answer = answer n noCounts; size = pick (done n) (length out) 0; lent = written n lent out }
+
+-- **The listing as a call.** A text that says `refused` is written like any other
+unfoldable pub printed : List ℕ → List ℕ → Printed
+printed file lent = handedOver (listing file) lent

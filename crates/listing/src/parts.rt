@@ -1,5 +1,6 @@
-// What the listing puts together: words and numbers, arrows, lines.
-
+// What writes the listing: words and numbers, arrows, lines, the phases of a run, whole texts.
 pub mod arrows;
 pub mod lines;
+pub mod phasing;
+pub mod texts;
 pub mod words;

@@ -1,0 +1,145 @@
+-- The text of a file: 18, another refusal, or a run; it is never longer than ENOUGH. Assumes nothing.
+use mathlib.Core.Path.{_≡_, refl, ap, sym, subst, _∙_}
+use mathlib.Core.List.{List, []}
+use Prim.Native.Nat.{ℕ, _≤_, _<_}
+use native.Mathlib.Omega.{arith}
+use native.Mathlib.Decide.{ℕ-discrete}
+use lib.Dec.{ltb}
+use lib.ListN.{length, take, length-drop}
+use lib.Seq.{sets}
+use borrow.Author.Tests.{lt-ltb, le-ltb, ltb-false, ne-eqb}
+use Rattle.counting.specs.Checks.{first}
+use Rattle.counting.proofs.Checks.{first-here, first-later, first-off, first-none}
+use Rattle.racks.specs.Racks.{ofCaps, slots}
+use Rattle.racks.specs.Numbers.{cardChecks, tooShort}
+use Rattle.racks.specs.Answers.{answer, noCounts}
+use Rattle.racks.specs.Job.{racksOf, jobOf}
+use Rattle.racks.specs.Legal.{Spared}
+use Rattle.racks.specs.declared.Job.{Job}
+use Rattle.racks.proofs.Jobs.{sound-refused}
+use Rattle.racks.proofs.LegalTable.{legal, spared-caps}
+use Rattle.tables.proofs.Tables.{Accepted, accepted, of-cards, of-sound, of-racks}
+use Rattle.moves.specs.Parts.{held}
+use Rattle.shuffle.proofs.Shuffles.{cards-good}
+use Rattle.runs.proofs.Ending.{bytes-small}
+use Rattle.jobfile.specs.File.{readM, readEntries, fileRacks, fileBytes, filePlaces, fileCards, fileChecks}
+use Rattle.jobfile.specs.Answers.{cardsOf, doneFile, fileAnswer}
+use Rattle.jobfile.specs.Parts.{Parsed}
+use Rattle.jobfile.specs.declared.FileAnswer.{FileAnswer}
+use Rattle.jobfile.proofs.Legal.{file-legal, file-small}
+use Rattle.listing.specs.Listing.{FILE, ENOUGH, refusedLine, programChecks, fileHeld, runText, listing, handedOver, printed}
+use Rattle.listing.specs.Writing.{Room}
+use Rattle.listing.proofs.Lines.{refused-small}
+use Rattle.listing.proofs.Refusals.{number-most}
+use Rattle.listing.proofs.Enough.{run-enough}
+
+module _ (file : List ℕ) where
+  -- by the number: a refusal
+  by-refusal : (n : ℕ) → first (programChecks file) ≡ n → (n ≡ 0 → ⊥) → listing file ≡ refusedLine n
+  unfolding listing
+  by-refusal n e f = rw (e, ne-eqb n 0 f)
+
+  -- or a run
+  by-run : first (programChecks file) ≡ 0 → listing file ≡ runText (fileRacks file) (fileBytes file) (fileHeld file)
+  unfolding listing
+  by-run e = rw e
+
+  -- a file above 32,768 bytes
+  pub listing-18 : FILE < length file → listing file ≡ refusedLine 18
+  unfolding programChecks
+  listing-18 h = by-refusal 18 (first-here (ltb FILE (length file)) 18 (fileChecks file) (lt-ltb FILE (length file) h)) (λ e. omega arith)
+
+  -- any other has the reader's number
+  passed : length file ≤ FILE → first (programChecks file) ≡ first (fileChecks file)
+  unfolding programChecks
+  passed h = first-later (ltb FILE (length file)) 18 (fileChecks file) (le-ltb FILE (length file) h)
+
+  -- a file that is not refused
+  within : first (programChecks file) ≡ 0 → (length file ≤ FILE) × (first (fileChecks file) ≡ 0)
+  unfolding programChecks
+  within z =
+      let o = first-off (ltb FILE (length file)) 18 (fileChecks file) (λ e. omega arith) z in
+      (ltb-false FILE (length file) (o .0), o .1)
+
+  run-small : first (programChecks file) ≡ 0 → length (runText (fileRacks file) (fileBytes file) (fileHeld file)) ≤ ENOUGH
+  unfolding fileHeld fileRacks fileCards
+  run-small z =
+      let w = within z in
+      let good = cards-good (fileRacks file) (fileBytes file) (filePlaces file) (fileCards file) (file-legal file (w .1)) in
+      run-enough (fileRacks file) (fileBytes file) (fileHeld file) (legal (fileRacks file) (filePlaces file) (good .table-good)) (spared-caps (readM file .values)) (file-small file (w .1) .1)
+      (good .cards-long) (omega (arith, good .cards-long, length-drop (readEntries file .place) file, w .0))
+
+  -- **Always enough**: no text is longer than ENOUGH, that of a refusal neither
+  pub listing-enough : length (listing file) ≤ ENOUGH
+  listing-enough = elim (ℕ-discrete (first (programChecks file)) 0) [
+    | yes e ↦ omega (arith, ap length (by-run e), run-small e)
+    | no f ↦ omega (arith, ap length (by-refusal _ refl f), refused-small (first (programChecks file)) (omega (arith, number-most file)))
+  ]
+
+  -- so it fits into a buffer of that length
+  pub listing-room : (out : List ℕ) → ENOUGH ≤ length out → Room (listing file) 0 out
+  listing-room out h = omega (arith, listing-enough)
+
+  -- and the call then gives 0 and writes all of it
+  pub printed-enough : (lent : List ℕ) → ENOUGH ≤ length lent → printed file lent ≡ record { answer = answer 0 noCounts; size = length (listing file); lent = sets lent 0 (listing file) }
+  unfolding printed handedOver tooShort
+  printed-enough lent h =
+      let s : length (listing file) ≤ length lent = omega (arith, listing-enough) in
+      rw (first-later (ltb (length lent) (length (listing file))) 13 [] (le-ltb (length lent) (length (listing file)) s) ∙ first-none)
+
+  -- what the reader gives
+  module _ (small : length file ≤ FILE) {found : FileAnswer} {caps places : List ℕ} (p : Parsed file found caps places) where
+    number-is : found .answer .number ≡ first (fileChecks file)
+    number-is = ap (λ (x : FileAnswer). x .answer .number) (p .is) ∙ same (first (fileChecks file))
+      where
+        same : (n : ℕ) → fileAnswer file n .answer .number ≡ n
+        same n = elim (ℕ-discrete n 0) [ yes e ↦ rw e | no f ↦ rw (ne-eqb n 0 f) ]
+
+    -- a refusal
+    pub listing-refused : (found .answer .number ≡ 0 → ⊥) → listing file ≡ refusedLine (found .answer .number)
+    listing-refused f = by-refusal (found .answer .number) (passed small ∙ sym number-is) f
+
+    -- a legal job
+    module _ (z : found .answer .number ≡ 0) where
+      no-check : first (fileChecks file) ≡ 0
+      no-check = sym number-is ∙ z
+
+      done-is : found ≡ doneFile file
+      done-is = p .is ∙ rw no-check
+
+      caps-are : ofCaps (take (found .racks) caps) ≡ fileRacks file
+      unfolding fileRacks
+      caps-are = ap ofCaps (p .caps-are z)
+
+      bytes-are : found .bytes ≡ fileBytes file
+      bytes-are = ap (λ (x : FileAnswer). x .bytes) done-is
+
+      cards-are : cardsOf found file ≡ fileCards file
+      unfolding cardsOf fileCards
+      cards-are = rw (z, ap (λ (x : FileAnswer). x .place) done-is)
+
+      pub job-legal : first (cardChecks (ofCaps (take (found .racks) caps)) (found .bytes) (take (found .slots) places) (cardsOf found file)) ≡ 0
+      job-legal = rw (cards-are, caps-are, bytes-are, p .places-are z) (file-legal file no-check)
+
+      pub job-small : length (cardsOf found file) ≤ FILE
+      unfolding fileCards
+      job-small = omega (arith, ap length cards-are, length-drop (readEntries file .place) file)
+
+      -- whose run is the text
+      pub listing-run : listing file ≡ runText (ofCaps (take (found .racks) caps)) (found .bytes) (held (take (found .slots) places) (cardsOf found file))
+      unfolding fileHeld
+      listing-run = rw (cards-are, caps-are, bytes-are, p .places-are z) (by-run (passed small ∙ no-check))
+
+-- the job of capacities whose table and cards are not refused
+module _ (caps : List ℕ) (job : Job) (is : job ≡ jobOf (ofCaps caps)) (b : ℕ) (places cards : List ℕ) (z : first (cardChecks (ofCaps caps) b places cards) ≡ 0) where
+  pub job-accepted : Accepted job b places cards
+  job-accepted = accepted job b places cards (of-cards caps job is b places cards ∙ z) (of-sound caps job is)
+
+  pub job-racks : racksOf job ≡ ofCaps caps
+  job-racks = of-racks caps job is (sound-refused job (job-accepted .sound))
+
+  pub job-spared : Spared (racksOf job)
+  job-spared = subst Spared (sym job-racks) (spared-caps caps)
+
+  pub job-bytes : b ≤ 256
+  job-bytes = bytes-small b (job-accepted .bytes)
