@@ -6,7 +6,7 @@ use native.Mathlib.Omega.{arith}
 use native.Mathlib.Decide.{ℕ-discrete}
 use lib.Dec.{ltb}
 use lib.ListN.{length, take, length-drop}
-use lib.Seq.{sets}
+use lib.Seq.{sets, length-sets}
 use borrow.Author.Tests.{lt-ltb, le-ltb, ltb-false, ne-eqb}
 use Rattle.counting.specs.Checks.{first}
 use Rattle.counting.proofs.Checks.{first-here, first-later, first-off, first-none}
@@ -20,6 +20,7 @@ use Rattle.racks.proofs.Jobs.{sound-refused}
 use Rattle.racks.proofs.LegalTable.{legal, spared-caps}
 use Rattle.tables.proofs.Tables.{Accepted, accepted, of-cards, of-sound, of-racks}
 use Rattle.moves.specs.Parts.{held}
+use Rattle.copies.proofs.Writing.{take-front}
 use Rattle.shuffle.proofs.Shuffles.{cards-good}
 use Rattle.runs.proofs.Ending.{bytes-small}
 use Rattle.jobfile.specs.File.{readM, readEntries, fileRacks, fileBytes, filePlaces, fileCards, fileChecks}
@@ -27,8 +28,9 @@ use Rattle.jobfile.specs.Answers.{cardsOf, doneFile, fileAnswer}
 use Rattle.jobfile.specs.Parts.{Parsed}
 use Rattle.jobfile.specs.declared.FileAnswer.{FileAnswer}
 use Rattle.jobfile.proofs.Legal.{file-legal, file-small}
-use Rattle.listing.specs.Listing.{FILE, ENOUGH, refusedLine, programChecks, fileHeld, runText, listing, handedOver, printed}
-use Rattle.listing.specs.Writing.{Room}
+use Rattle.listing.specs.Listing.{FILE, ENOUGH, refusedLine, programChecks, fileHeld, runText, listing, handedOver, Printed, printed}
+use Rattle.listing.specs.Writing.{Room, printedOf}
+use Rattle.listing.specs.declared.TextAnswer.{TextAnswer}
 use Rattle.listing.proofs.Lines.{refused-small}
 use Rattle.listing.proofs.Refusals.{number-most}
 use Rattle.listing.proofs.Enough.{run-enough}
@@ -86,6 +88,16 @@ module _ (file : List ℕ) where
   printed-enough lent h =
       let s : length (listing file) ≤ length lent = omega (arith, listing-enough) in
       rw (first-later (ltb (length lent) (length (listing file))) 13 [] (le-ltb (length lent) (length (listing file)) s) ∙ first-none)
+
+  -- which stands before `size` in the buffer at exit
+  pub text-front : (lent lent′ : List ℕ) (r : TextAnswer) → ENOUGH ≤ length lent → printedOf r lent′ ≡ printed file lent → (take (r .size) lent′ ≡ listing file) × (r .size ≤ length lent′)
+  unfolding printedOf
+  text-front lent lent′ r h e =
+      let q = e ∙ printed-enough lent h in
+      let size : r .size ≡ length (listing file) = ap (λ (x : Printed). x .size) q in
+      let buffer : lent′ ≡ sets lent 0 (listing file) = ap (λ (x : Printed). x .lent) q in
+      let fits : length (listing file) ≤ length lent = omega (arith, listing-enough) in
+      (rw (size, buffer) (take-front lent (listing file) (length (listing file)) refl fits), omega (arith, size, ap length buffer, length-sets lent 0 (listing file)))
 
   -- what the reader gives
   module _ (small : length file ≤ FILE) {found : FileAnswer} {caps places : List ℕ} (p : Parsed file found caps places) where
