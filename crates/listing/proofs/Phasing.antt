@@ -94,15 +94,15 @@ module _ {racks : List Rack} {n : ℕ} {table : List ℕ} (f : Fixed racks n tab
     pub lined-runnable : Runnable n b rows h table pairs
     lined-runnable = turn-runnable racks n table f b k h₀ rows h pairs left (r .turn) l
 
-    module _ {made : ℕ} {h′ : Held} {pairs′ heads lows : List ℕ} (p : PhaseRun n b left rows h table pairs made h′ pairs′ heads lows) where
+    module _ {made : ℕ} {h′ : Held} {pairs′ heads lows rooms : List ℕ} (p : PhaseRun n b left rows h table pairs made h′ pairs′ heads lows rooms) where
       -- the whole plan is carried
       whole : made ≡ length (plan racks (h .places))
-      whole = omega (arith, made-is racks n table f b k h₀ rows h pairs left (r .turn) l made h′ pairs′ heads lows p, plan-aways racks (h .places), r .enough)
+      whole = omega (arith, made-is racks n table f b k h₀ rows h pairs left (r .turn) l made h′ pairs′ heads lows rooms p, plan-aways racks (h .places), r .enough)
 
       -- a phase with no pairs: nothing was away
       pub lined-none : Legal racks (h₀ .places) → aways racks (h₀ .places) ≤ k → made ≡ 0 → PhasesPut racks b h₀ h′ before out (phasedOf count (k - left) place)
       lined-none legal₀ all z =
-          lined-end legal₀ all h′ (k - left) (turn-none racks n table f b k h₀ rows h pairs left (r .turn) l made h′ pairs′ heads lows p z)
+          lined-end legal₀ all h′ (k - left) (turn-none racks n table f b k h₀ rows h pairs left (r .turn) l made h′ pairs′ heads lows rooms p z)
           (by-test (someAway racks (h .places)) (λ e. absurd (omega (arith, whole, first-fit (f .spared) .has-pair (h .places) (r .turn .legal) e))) (λ e. e))
 
       -- no more are made than are left
@@ -128,7 +128,7 @@ module _ {racks : List Rack} {n : ℕ} {table : List ℕ} (f : Fixed racks n tab
 
         held-whole : h′ ≡ carried b (plan racks (h .places)) h
         held-whole =
-            held-is racks n table f b k h₀ rows h pairs left (r .turn) l made h′ pairs′ heads lows p
+            held-is racks n table f b k h₀ rows h pairs left (r .turn) l made h′ pairs′ heads lows rooms p
             ∙ ap (λ (ms : List Pair). carried b ms h) (take-all left (plan racks (h .places)) (omega (arith, plan-aways racks (h .places), r .enough)))
 
         places-are : h′ .places ≡ carriedPlaces (plan racks (h .places)) (h .places)
@@ -148,11 +148,11 @@ module _ {racks : List Rack} {n : ℕ} {table : List ℕ} (f : Fixed racks n tab
 
         -- it is written
         pub lined-next : {out′ : List ℕ} {place′ : ℕ} → Wrote (phaseLine (count + 1) (pairsIn pairs′ 0 (2 * made))) out place out′ place′
-            → Lined racks b k h₀ (rowsOf (rows .queue) heads (rows .tails) lows (rows .ends)) h′ pairs′ (left - made) before out′ (count + 1) place′
+            → Lined racks b k h₀ (rowsOf (rows .queue) heads (rows .tails) lows rooms (rows .ends)) h′ pairs′ (left - made) before out′ (count + 1) place′
         lined-next w =
             let in-turn : InTurn racks (h .places) (plan racks (h .places)) = plan-in-turn racks (h .places) rows (r .turn .legal) (r .turn .ready l) in
             record {
-              turn = turn-next racks n table f b k h₀ rows h pairs left (r .turn) l made h′ pairs′ heads lows p nz;
+              turn = turn-next racks n table f b k h₀ rows h pairs left (r .turn) l made h′ pairs′ heads lows rooms p nz;
               enough = rw places-are (omega (arith, aways-carried (r .turn .legal) in-turn, whole, r .enough));
               counted = omega (arith, ap length step, r .counted);
               few = omega (arith, r .few, made-left);

@@ -49,10 +49,11 @@ pub fn put_rounds(
     heads: &mut [u16; 64],
     tails: &[u16; 64],
     lows: &mut [u16; 64],
+    rooms: &mut [u16; 64],
     ends: &[u16; 64],
     pairs: &mut [u16],
 ) -> Phased
-    requires { ⌜ Going job b (rowsOf (now queue) (now heads) (now tails) (now lows) (now ends)) (held (now places) (now cards)) (now table) (now pairs) × Room (phaseLines 1 (phases (racksOf job) (now places))) 0 (now out) ⌝ }
+    requires { ⌜ Going job b (rowsOf (now queue) (now heads) (now tails) (now lows) (now rooms) (now ends)) (held (now places) (now cards)) (now table) (now pairs) × Room (phaseLines 1 (phases (racksOf job) (now places))) 0 (now out) ⌝ }
     ensures { λ r. ⌜ PhasesPut (racksOf job) b (held (now (places .entry)) (now (cards .entry))) (held (now (places .exit)) (now (cards .exit))) (now (out .entry)) (now (out .exit)) r ⌝ }
 {
     let mut left = job.slots;
@@ -70,6 +71,7 @@ pub fn put_rounds(
             heads,
             tails,
             lows,
+            rooms,
             ends,
             pairs,
         );
@@ -83,7 +85,7 @@ pub fn put_rounds(
     counted(k, job.slots, next)
 }
 
-// All phases of a legal table with its cards, listed: the queues and marks, made and lent.
+// All phases of a legal table with its cards, listed: the queues, marks and counts of free slots, made and lent.
 pub fn put_phases(
     out: &mut [u8],
     job: Job,
@@ -99,6 +101,7 @@ pub fn put_phases(
     let mut heads = [0u16; 64];
     let mut tails = [0u16; 64];
     let mut lows = [0u16; 64];
+    let mut rooms = [0u16; 64];
     let mut ends = [0u16; 64];
     let mut pairs = [0u16; 8192];
     arrivals::queue_up(
@@ -109,6 +112,7 @@ pub fn put_phases(
         &mut heads,
         &mut tails,
         &mut lows,
+        &mut rooms,
         &mut ends,
     );
     put_rounds(
@@ -122,6 +126,7 @@ pub fn put_phases(
         &mut heads,
         &tails,
         &mut lows,
+        &mut rooms,
         &ends,
         &mut pairs,
     )

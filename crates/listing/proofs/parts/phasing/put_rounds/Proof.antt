@@ -12,22 +12,22 @@ use Rattle.listing.proofs.parts.phasing.put_rounds.Statement.{statement
 use Rattle.listing.proofs.parts.phasing.put_rounds.Tie as tie
 
 abbrev Inv-loop : tie.InvT-loop
-Inv-loop out₀ job b places₀ cards₀ table queue heads₀ tails lows₀ ends pairs₀ left₀ k₀ next₀ out places cards heads lows pairs left k next =
+Inv-loop out₀ job b places₀ cards₀ table queue heads₀ tails lows₀ rooms₀ ends pairs₀ left₀ k₀ next₀ out places cards heads lows rooms pairs left k next =
     (length out ≡ length out₀) × (length places ≡ length places₀) × (length cards ≡ length cards₀) × (length pairs ≡ length pairs₀)
-    × Lined (racksOf job) b (job .slots) (held places₀ cards₀) (rowsOf queue heads tails lows ends) (held places cards) pairs left out₀ out k next
+    × Lined (racksOf job) b (job .slots) (held places₀ cards₀) (rowsOf queue heads tails lows rooms ends) (held places cards) pairs left out₀ out k next
 
 abbrev μ-loop : tie.MeasureT-loop
-μ-loop out₀ job b places₀ cards₀ table queue heads₀ tails lows₀ ends pairs₀ left₀ k₀ next₀ out places cards heads lows pairs left k next =
+μ-loop out₀ job b places₀ cards₀ table queue heads₀ tails lows₀ rooms₀ ends pairs₀ left₀ k₀ next₀ out places cards heads lows rooms pairs left k next =
     left
 
 loop-holds : tie.Need-loop-holds Inv-loop μ-loop
 loop-holds c = let s = c .before .before .before .before in (refl, refl, refl, refl, lined-first (s .pre .0) (s .args .out .now))
 
 run-phase-requires : tie.Need-run-phase-requires Inv-loop μ-loop
-run-phase-requires c κs = let l = c .before .before .before .before .before .before .loop in lined-runnable (going-fixed (c .before .before .before .before .before .before .before .before .before .before .before .pre .0)) (l .inv .4) (omega arith)
+run-phase-requires c κs = let l = c .before .before .before .before .before .before .before .loop in lined-runnable (going-fixed (c .before .before .before .before .before .before .before .before .before .before .before .before .pre .0)) (l .inv .4) (omega arith)
 
 sub-counted : tie.Need-sub-counted Inv-loop μ-loop
-sub-counted c = omega (arith, c .before .before .before .before .before .before .before .before .before .before .before .before .before .before .before .loop .inv .4 .turn .within)
+sub-counted c = omega (arith, c .before .before .before .before .before .before .before .before .before .before .before .before .before .before .before .before .loop .inv .4 .turn .within)
 
 counted-requires : tie.Need-counted-requires Inv-loop μ-loop
 counted-requires c κs = search needs
@@ -46,42 +46,42 @@ same-length-4 c = search needs
 
 returns : tie.Need-returns Inv-loop μ-loop
 returns c =
-    let s = c .before .before .before .before .before .before .before .before .before .before .before .before .before .before .before .before .before .before .before .before .before in
-    let l = c .before .before .before .before .before .before .before .before .before .before .before .before .before .before .before .before .loop in
+    let s = c .before .before .before .before .before .before .before .before .before .before .before .before .before .before .before .before .before .before .before .before .before .before in
+    let l = c .before .before .before .before .before .before .before .before .before .before .before .before .before .before .before .before .before .loop in
     rw (c .counted .ensures)
-    (lined-none (going-fixed (s .pre .0)) (l .inv .4) (c .before .before .before .before .before .before .before .before .before .before .before .before .before .before .before .loop-test .taken) (c .before .before .before .before .before .before .before .before .before .run-phase .ensures) (legal-first (s .pre .0)) (all-away (s .pre .0)) (c .before .before .if1 .taken))
+    (lined-none (going-fixed (s .pre .0)) (l .inv .4) (c .before .before .before .before .before .before .before .before .before .before .before .before .before .before .before .before .loop-test .taken) (c .before .before .before .before .before .before .before .before .before .run-phase .ensures) (legal-first (s .pre .0)) (all-away (s .pre .0)) (c .before .before .if1 .taken))
 
 add-k : tie.Need-add-k Inv-loop μ-loop
-add-k c = omega (arith, c .before .before .before .before .before .before .before .before .before .before .before .before .before .before .loop .inv .4 .few, slots-few _ (c .before .before .before .before .before .before .before .before .before .before .before .before .before .before .before .before .before .before .before .pre .0 .sound))
+add-k c = omega (arith, c .before .before .before .before .before .before .before .before .before .before .before .before .before .before .before .loop .inv .4 .few, slots-few _ (c .before .before .before .before .before .before .before .before .before .before .before .before .before .before .before .before .before .before .before .before .pre .0 .sound))
 
 mul-put-phase : tie.Need-mul-put-phase Inv-loop μ-loop
 mul-put-phase c =
-    let s = c .before .before .before .before .before .before .before .before .before .before .before .before .before .before .before .before .before .before .before .before .before in
-    omega (arith, made-left (going-fixed (s .pre .0)) (c .before .before .before .before .before .before .before .before .before .before .before .before .before .before .before .before .loop .inv .4) (omega arith) (c .before .before .before .before .before .before .before .before .before .run-phase .ensures), c .before .before .before .before .before .before .before .before .before .before .before .before .before .before .before .before .loop .inv .4 .few, slots-few _ (s .pre .0 .sound))
+    let s = c .before .before .before .before .before .before .before .before .before .before .before .before .before .before .before .before .before .before .before .before .before .before in
+    omega (arith, made-left (going-fixed (s .pre .0)) (c .before .before .before .before .before .before .before .before .before .before .before .before .before .before .before .before .before .loop .inv .4) (omega arith) (c .before .before .before .before .before .before .before .before .before .run-phase .ensures), c .before .before .before .before .before .before .before .before .before .before .before .before .before .before .before .before .before .loop .inv .4 .few, slots-few _ (s .pre .0 .sound))
 
 put-phase-requires : tie.Need-put-phase-requires Inv-loop μ-loop
 put-phase-requires c κs =
-    let s = c .before .before .before .before .before .before .before .before .before .before .before .before .before .before .before .before .before .before .before .before .before in
-    let l = c .before .before .before .before .before .before .before .before .before .before .before .before .before .before .before .before .loop in
+    let s = c .before .before .before .before .before .before .before .before .before .before .before .before .before .before .before .before .before .before .before .before .before .before in
+    let l = c .before .before .before .before .before .before .before .before .before .before .before .before .before .before .before .before .before .loop in
     let p = c .before .before .before .before .before .before .before .before .before .run-phase .ensures in
     (pairs-long (going-fixed (s .pre .0)) (l .inv .4) (omega arith) p, line-room (going-fixed (s .pre .0)) (l .inv .4) (omega arith) p (c .before .before .if1 .left) (s .pre .1))
 
 sub-left : tie.Need-sub-left Inv-loop μ-loop
-sub-left c = made-left (going-fixed (c .before .before .before .before .before .before .before .before .before .before .before .before .before .before .before .before .before .before .before .before .before .before .before .before .pre .0)) (c .before .before .before .before .before .before .before .before .before .before .before .before .before .before .before .before .before .before .before .loop .inv .4) (omega arith) (c .before .before .before .before .before .before .before .before .before .before .before .before .run-phase .ensures)
+sub-left c = made-left (going-fixed (c .before .before .before .before .before .before .before .before .before .before .before .before .before .before .before .before .before .before .before .before .before .before .before .before .before .pre .0)) (c .before .before .before .before .before .before .before .before .before .before .before .before .before .before .before .before .before .before .before .before .loop .inv .4) (omega arith) (c .before .before .before .before .before .before .before .before .before .before .before .before .run-phase .ensures)
 
 loop-less : tie.Need-loop-less Inv-loop μ-loop
 loop-less c = omega (arith, sub-left c, c .before .before .before .before .before .if1 .left)
 
 loop-again : tie.Need-loop-again Inv-loop μ-loop
 loop-again c =
-    let s = c .before .before .before .before .before .before .before .before .before .before .before .before .before .before .before .before .before .before .before .before .before .before .before .before in
-    let l = c .before .before .before .before .before .before .before .before .before .before .before .before .before .before .before .before .before .before .before .loop in
+    let s = c .before .before .before .before .before .before .before .before .before .before .before .before .before .before .before .before .before .before .before .before .before .before .before .before .before in
+    let l = c .before .before .before .before .before .before .before .before .before .before .before .before .before .before .before .before .before .before .before .before .loop in
     let r = c .before .before .before .before .before .before .before .before .before .before .before .before .run-phase in
     let w = c .before .before .put-phase in (
       omega (arith, w .kept .0, l .inv .0),
       omega (arith, r .kept .1 .1 .1 .0, l .inv .1),
       omega (arith, r .kept .1 .1 .1 .1 .0, l .inv .2),
-      omega (arith, r .kept .1 .1 .1 .1 .1 .1 .1 .1 .1 .1 .1 .0, l .inv .3),
+      omega (arith, r .kept .1 .1 .1 .1 .1 .1 .1 .1 .1 .1 .1 .1 .0, l .inv .3),
       lined-next (going-fixed (s .pre .0)) (l .inv .4) (omega arith) (r .ensures) (c .before .before .before .before .before .if1 .left) (w .ensures),
     )
 
