@@ -1,0 +1,56 @@
+-- `seineflute::parts::state_number` meets its contract. Assumes nothing.
+use mathlib.Core.Path.{sym, ap}
+use Rattle.seineflute.specs.Flat.{stateNumber}
+use borrow.Author.Needs.{needs}
+use Rattle.seineflute.proofs.parts.state_number.Statement.{statement}
+use Rattle.seineflute.proofs.parts.state_number.Tie as tie
+
+enum-told : tie.Need-enum-told
+enum-told c = search needs
+
+enum-told-2 : tie.Need-enum-told-2
+enum-told-2 c = search needs
+
+enum-told-3 : tie.Need-enum-told-3
+enum-told-3 c = search needs
+
+enum-told-4 : tie.Need-enum-told-4
+enum-told-4 c = search needs
+
+enum-told-5 : tie.Need-enum-told-5
+enum-told-5 c = search needs
+
+returns : tie.Need-returns
+unfolding stateNumber
+returns c = sym (ap stateNumber (c .enum-told .given .1))
+
+returns-2 : tie.Need-returns-2
+unfolding stateNumber
+returns-2 c = sym (ap stateNumber (c .enum-told2 .given .1))
+
+returns-3 : tie.Need-returns-3
+unfolding stateNumber
+returns-3 c = sym (ap stateNumber (c .enum-told3 .given .1))
+
+returns-4 : tie.Need-returns-4
+unfolding stateNumber
+returns-4 c = sym (ap stateNumber (c .enum-told4 .given .1))
+
+returns-5 : tie.Need-returns-5
+unfolding stateNumber
+returns-5 c = sym (ap stateNumber (c .enum-told5 .given .1))
+
+pub state-number-spec : {M : Type 1} → statement M
+state-number-spec =
+    tie.close
+    (tie.spec
+    enum-told
+    enum-told-2
+    enum-told-3
+    enum-told-4
+    enum-told-5
+    returns
+    returns-2
+    returns-3
+    returns-4
+    returns-5)

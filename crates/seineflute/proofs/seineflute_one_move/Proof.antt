@@ -1,0 +1,26 @@
+-- `seineflute::seineflute_one_move` meets its contract. Assumes nothing.
+use mathlib.Core.Path.{ap, _∙_}
+use Rattle.racks.specs.declared.Answer.{Answer}
+use Rattle.moves.specs.Parts.{outcomeOf}
+use borrow.Author.Needs.{needs}
+use Rattle.seineflute.proofs.seineflute_one_move.Statement.{statement}
+use Rattle.seineflute.proofs.seineflute_one_move.Tie as tie
+
+one-move-requires : tie.Need-one-move-requires
+one-move-requires c κs = search needs
+
+numbers-of-requires : tie.Need-numbers-of-requires
+numbers-of-requires c κs = search needs
+
+same-length : tie.Need-same-length
+same-length c = search needs
+
+same-length-2 : tie.Need-same-length-2
+same-length-2 c = search needs
+
+returns : tie.Need-returns
+returns c = ap (λ (a : Answer). outcomeOf a (c .before .before .before .before .before .one-move .last .1 .1 .0) (c .before .before .before .before .before .one-move .last .1 .1 .1 .0)) (c .numbers-of .ensures) ∙ c .before .before .before .before .before .one-move .ensures
+
+pub seineflute-one-move-spec : {M : Type 1} → statement M
+seineflute-one-move-spec =
+    tie.close (tie.spec one-move-requires numbers-of-requires same-length same-length-2 returns)

@@ -1,0 +1,62 @@
+-- The layers' answers and the plain numbers that C is given, one definition for each struct. Assumes nothing: these are definitions.
+use Prim.Native.Nat.{ℕ}
+use Rattle.racks.specs.declared.Answer as racks
+use Rattle.slots.specs.declared.Kind.{Kind}
+use Rattle.slots.specs.declared.Kind.the-variants as kind
+use Rattle.slots.specs.declared.State.{State}
+use Rattle.slots.specs.declared.State.the-variants as state
+use Rattle.slots.specs.declared.SlotAnswer as slots
+use Rattle.jobfile.specs.declared.FileAnswer as jobfile
+use Rattle.seineflute.specs.declared.Answer.{Answer}
+use Rattle.seineflute.specs.declared.SlotAnswer.{SlotAnswer}
+use Rattle.seineflute.specs.declared.FileAnswer.{FileAnswer}
+
+-- the answer that four numbers are
+abbrev pub answerOf : Answer → racks.Answer
+answerOf a = record { number = a .number; tally = record { phases = a .phases; moves = a .moves; copies = a .copies } }
+
+-- the number of a kind: 1 user slot, 2 spare, 0 none
+unfoldable pub kindNumber : Kind → ℕ
+kindNumber kind.User = 1
+kindNumber kind.Spare = 2
+kindNumber kind.None = 0
+
+-- the number of a state: 1 free, 2 settled, 3 on its rack but unsettled, 4 away, 0 none
+unfoldable pub stateNumber : State → ℕ
+stateNumber state.Free = 1
+stateNumber state.Settled = 2
+stateNumber state.Unsettled = 3
+stateNumber (state.Away p) = 4
+stateNumber state.None = 0
+
+-- the rack to which a card is away; 0 in every other state
+unfoldable pub rackNumber : State → ℕ
+rackNumber state.Free = 0
+rackNumber state.Settled = 0
+rackNumber state.Unsettled = 0
+rackNumber (state.Away p) = p
+rackNumber state.None = 0
+
+-- the seven numbers that the slot question's answer is
+abbrev pub slotNumbers : slots.SlotAnswer → SlotAnswer
+slotNumbers found =
+    record {
+      number = found .answer .number;
+      phases = found .answer .tally .phases;
+      moves = found .answer .tally .moves;
+      copies = found .answer .tally .copies;
+      kind = kindNumber (found .slot .kind);
+      state = stateNumber (found .slot .state);
+      rack = rackNumber (found .slot .state);
+    }
+
+-- the file reader's answer that eight numbers are
+abbrev pub fileOf : FileAnswer → jobfile.FileAnswer
+fileOf r =
+    record {
+      answer = record { number = r .number; tally = record { phases = r .phases; moves = r .moves; copies = r .copies } };
+      racks = r .racks;
+      bytes = r .bytes;
+      slots = r .slots;
+      place = r .place;
+    }
