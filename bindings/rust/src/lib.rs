@@ -1,2 +1,359 @@
-//! Bindings to the proved library: to be written here. Until then the package
-//! holds a second implementation of the rules and the tests that compare two.
+//! Seineflute moves claim cards between racks without ever losing one. This crate
+//! is a thin safe layer over a library that is proved: every call ends, reads and
+//! writes inside the lists that it is lent only, and gives exactly the outcome
+//! that its definition says, on every input. No call panics.
+//!
+//! # Racks, slots, tables
+//!
+//! There are N racks, 1 to 64. Rack p has `caps[p]` user slots, 0 to 1,023, and
+//! one spare after them; the user slots total at most 4,032. Slots are numbered
+//! from 0 through all racks in order: rack 0's user slots, its spare, rack 1's
+//! user slots, its spare, and so on. S is their number, at most 4,096.
+//!
+//! `places` has S entries. Entry g is [`FREE`] if slot g is free, else the slot
+//! where the card in g must end: a user slot that no other entry names. A card is
+//! away if that slot is on another rack, and settled if it is its own.
+//!
+//! A card is B bytes, 1 to 256. `cards` has S·B bytes, slot 0 first.
+//!
+//! # A run
+//!
+//! Cards first go to their racks, in phases of moves; then each rack's cards are
+//! shuffled into their slots. [`whole_run`] does all of it. The other calls do it
+//! in steps: [`phase_plan`] and [`one_move`], or [`budgeted_moves`]; then
+//! [`copy_list`] to see what a shuffle would copy, and [`shuffle_cards`].
+//!
+//! A refusal changes nothing that is lent.
+//!
+//! ```
+//! use seineflute::{read_file, whole_run, Counts, FREE, MAX_RACKS, MAX_SLOTS};
+//!
+//! // A job file: 3 racks of 2, 2 and 1 user slots, cards of one byte.
+//! let file = [
+//!     3, 1, 2, 2, 1, // N, B, the capacities
+//!     4, 5, 0, 1, 7, 0, 2, 0, // the entries: 0 free, else destination + 1
+//!     b'A', b'B', 0, b'C', b'D', 0, b'E', 0, // the cards
+//! ];
+//! let mut caps = [0; MAX_RACKS];
+//! let mut places = [0; MAX_SLOTS];
+//! let job = read_file(&file, &mut caps, &mut places)?;
+//! let caps = &caps[..job.racks];
+//! let places = &mut places[..job.slots];
+//! let mut cards = job.cards.to_vec();
+//!
+//! let counts = whole_run(caps, job.bytes, places, &mut cards)?;
+//!
+//! assert_eq!(counts, Counts { phases: 2, moves: 5, copies: 5 });
+//! assert_eq!(cards, b"CE\0AB\0D\0");
+//! assert_eq!(places, [0, 1, FREE, 3, 4, FREE, 6, FREE]);
+//! # Ok::<(), seineflute::Refusal>(())
+//! ```
+
+use std::error::Error;
+use std::fmt;
+
+pub mod raw;
+
+/// In a places table: the slot is free.
+pub const FREE: u16 = 65_535;
+
+/// In a copy list: the hand, in which a cycle's last card waits.
+pub const HAND: u16 = 65_534;
+
+/// The most racks.
+pub const MAX_RACKS: usize = 64;
+
+/// The most bytes of a card.
+pub const MAX_BYTES: usize = 256;
+
+/// The most user slots of a rack.
+pub const MAX_USERS: usize = 1_023;
+
+/// The most user slots of all racks.
+pub const MAX_TOTAL: usize = 4_032;
+
+/// The most slots, spares among them.
+pub const MAX_SLOTS: usize = 4_096;
+
+/// Room for the phase plan of every job: a pair for each slot.
+pub const PLAN_ROOM: usize = 2 * MAX_SLOTS;
+
+/// Room for the copy list of every job: three copies for two slots.
+pub const COPY_ROOM: usize = 3 * MAX_SLOTS;
+
+/// Why a call did nothing. Checks are made in this order and the first that
+/// applies is given; the file reader has an order of its own ([`read_file`]).
+#[derive(Clone, Copy, Debug, PartialEq, Eq, PartialOrd, Ord, Hash)]
+pub enum Refusal {
+    /// 1: N is 0 or above 64.
+    BadCount = 1,
+    /// 2: B is 0 or above 256.
+    BadBytes = 2,
+    /// 3: a rack has more than 1,023 user slots, or the total is above 4,032.
+    BadSize = 3,
+    /// 4: places is not S long, or cards is lent and not S·B long.
+    BadLength = 4,
+    /// 5: an entry is neither free nor a user slot.
+    BadEntry = 5,
+    /// 6: two entries name one slot.
+    NamedTwice = 6,
+    /// 7: a slot number in the call is S or more.
+    NoSlot = 7,
+    /// 8: the source slot is free.
+    SourceFree = 8,
+    /// 9: the source's card is on its rack already.
+    SourceHome = 9,
+    /// 10: the target is not on the card's destination rack.
+    Elsewhere = 10,
+    /// 11: the target is not free.
+    TargetTaken = 11,
+    /// 12: a card is away (copy list and shuffle only).
+    SomeAway = 12,
+    /// 13: the lent list is too short for what would be written.
+    TooShort = 13,
+    /// 14: file: a number is not in its shortest form, or has more than three groups.
+    FileForm = 14,
+    /// 15: file: it ends too early.
+    FileEnds = 15,
+    /// 16: file: bytes are left over.
+    FileLeftOver = 16,
+    /// 17: file: room for capacities is below N, or for places below S.
+    FileRoom = 17,
+    /// 18: listing only: the file is above 32,768 bytes. No call returns it; it
+    /// stands in a listing's text.
+    FileLarge = 18,
+}
+
+impl Refusal {
+    /// All of them, by number.
+    pub const ALL: [Refusal; 18] = [
+        Refusal::BadCount,
+        Refusal::BadBytes,
+        Refusal::BadSize,
+        Refusal::BadLength,
+        Refusal::BadEntry,
+        Refusal::NamedTwice,
+        Refusal::NoSlot,
+        Refusal::SourceFree,
+        Refusal::SourceHome,
+        Refusal::Elsewhere,
+        Refusal::TargetTaken,
+        Refusal::SomeAway,
+        Refusal::TooShort,
+        Refusal::FileForm,
+        Refusal::FileEnds,
+        Refusal::FileLeftOver,
+        Refusal::FileRoom,
+        Refusal::FileLarge,
+    ];
+
+    /// The number that the library gives for it, 1 to 18.
+    pub fn number(self) -> usize {
+        self as usize
+    }
+
+    /// The refusal of a number; `None` for 0, which is done, and above 18.
+    pub fn from_number(number: usize) -> Option<Refusal> {
+        Refusal::ALL.get(number.checked_sub(1)?).copied()
+    }
+}
+
+impl fmt::Display for Refusal {
+    fn fmt(&self, f: &mut fmt::Formatter<'_>) -> fmt::Result {
+        f.write_str(match self {
+            Refusal::BadCount => "N is 0 or above 64",
+            Refusal::BadBytes => "B is 0 or above 256",
+            Refusal::BadSize => "some m_p above 1,023, or the total above 4,032",
+            Refusal::BadLength => "places is not S long, or cards is lent and not S·B long",
+            Refusal::BadEntry => "an entry is neither 65,535 nor a user slot",
+            Refusal::NamedTwice => "two entries name one slot",
+            Refusal::NoSlot => "a slot number in the call is S or more",
+            Refusal::SourceFree => "the source slot is free",
+            Refusal::SourceHome => "the source's card is on its rack already",
+            Refusal::Elsewhere => "the target is not on the card's destination rack",
+            Refusal::TargetTaken => "the target is not free",
+            Refusal::SomeAway => "a card is away",
+            Refusal::TooShort => "the lent list is too short for what would be written",
+            Refusal::FileForm => {
+                "file: a number not in its shortest form, or of more than three groups"
+            }
+            Refusal::FileEnds => "file: it ends too early",
+            Refusal::FileLeftOver => "file: bytes left over",
+            Refusal::FileRoom => "file: room for capacities below N, or for places below S",
+            Refusal::FileLarge => "file above 32,768 bytes",
+        })
+    }
+}
+
+impl Error for Refusal {}
+
+/// What a call has counted; 0 where it does not speak of it.
+#[derive(Clone, Copy, Debug, Default, PartialEq, Eq, Hash)]
+pub struct Counts {
+    /// The plans that had pairs: the whole run alone counts them.
+    pub phases: usize,
+    /// The moves planned or made.
+    pub moves: usize,
+    /// The copies listed or made.
+    pub copies: usize,
+}
+
+/// Whether a slot is a user slot or a rack's spare.
+#[derive(Clone, Copy, Debug, PartialEq, Eq, Hash)]
+pub enum Kind {
+    User,
+    Spare,
+}
+
+/// What stands in a slot.
+#[derive(Clone, Copy, Debug, PartialEq, Eq, Hash)]
+pub enum State {
+    Free,
+    /// The card is in its slot.
+    Settled,
+    /// The card is on its rack, but not in its slot.
+    Unsettled,
+    /// The card's slot is on another rack: this one.
+    Away(usize),
+}
+
+/// The answer to the slot question.
+#[derive(Clone, Copy, Debug, PartialEq, Eq, Hash)]
+pub struct Slot {
+    pub kind: Kind,
+    pub state: State,
+}
+
+/// What a job file has, beside the capacities and the places.
+#[derive(Clone, Copy, Debug, PartialEq, Eq)]
+pub struct JobFile<'a> {
+    /// N: the capacities at the front of the lent list.
+    pub racks: usize,
+    /// B: the bytes of a card.
+    pub bytes: usize,
+    /// S: the places at the front of the lent list.
+    pub slots: usize,
+    /// The card bytes, S·B of them: the last part of the file.
+    pub cards: &'a [u8],
+}
+
+/// Done, or the refusal that a number is.
+fn outcome<T>(number: usize, done: T) -> Result<T, Refusal> {
+    if number == 0 {
+        return Ok(done);
+    }
+    Err(Refusal::from_number(number).expect("it is proved that a number is at most 18"))
+}
+
+fn counted(answer: raw::Answer) -> Result<Counts, Refusal> {
+    let counts = Counts {
+        phases: answer.phases,
+        moves: answer.moves,
+        copies: answer.copies,
+    };
+    outcome(answer.number, counts)
+}
+
+/// Table check: whether the racks and the table are legal. Refuses with 1, 3, 4, 5 or 6.
+pub fn check_table(caps: &[u16], places: &[u16]) -> Result<(), Refusal> {
+    counted(raw::check_table(caps, places)).map(|_| ())
+}
+
+/// Slot question: what slot `slot` is, and what stands in it. Refuses with 1, 3 to 6, or 7.
+pub fn slot_question(caps: &[u16], places: &[u16], slot: usize) -> Result<Slot, Refusal> {
+    let answer = raw::slot_question(caps, places, slot);
+    let kind = if answer.kind == 1 {
+        Kind::User
+    } else {
+        Kind::Spare
+    };
+    let state = match answer.state {
+        1 => State::Free,
+        2 => State::Settled,
+        3 => State::Unsettled,
+        _ => State::Away(answer.rack),
+    };
+    outcome(answer.number, Slot { kind, state })
+}
+
+/// Phase plan: writes the pairs (from, to) of the present phase to the front of
+/// `list`, two numbers each, and counts them as moves. [`PLAN_ROOM`] is always
+/// room enough. Refuses with 1, 3 to 6, or 13.
+pub fn phase_plan(caps: &[u16], places: &[u16], list: &mut [u16]) -> Result<Counts, Refusal> {
+    counted(raw::phase_plan(caps, places, list))
+}
+
+/// One move: the card in slot `from`, which must be away, to slot `to`, which must
+/// be free and on the card's destination rack. The source becomes free and all
+/// zero. Refuses with 1 to 11.
+pub fn one_move(
+    caps: &[u16],
+    b: usize,
+    places: &mut [u16],
+    cards: &mut [u8],
+    from: usize,
+    to: usize,
+) -> Result<Counts, Refusal> {
+    counted(raw::one_move(caps, b, places, cards, from, to))
+}
+
+/// Budgeted moves: at most `k`, the present phase's pairs in plan order, a new plan
+/// when they are used up. Refuses with 1 to 6.
+pub fn budgeted_moves(
+    caps: &[u16],
+    b: usize,
+    places: &mut [u16],
+    cards: &mut [u8],
+    k: usize,
+) -> Result<Counts, Refusal> {
+    counted(raw::budgeted_moves(caps, b, places, cards, k))
+}
+
+/// Copy list: writes the copies that a shuffle makes to the front of `list`, from
+/// and then to, the hand as [`HAND`]. [`COPY_ROOM`] is always room enough. Refuses
+/// with 1, 3 to 6, 12 or 13.
+pub fn copy_list(caps: &[u16], places: &[u16], list: &mut [u16]) -> Result<Counts, Refusal> {
+    counted(raw::copy_list(caps, places, list))
+}
+
+/// Shuffle: every card to its slot inside its rack, and every free slot zeroed.
+/// Refuses with 1 to 6, or 12.
+pub fn shuffle_cards(
+    caps: &[u16],
+    b: usize,
+    places: &mut [u16],
+    cards: &mut [u8],
+) -> Result<Counts, Refusal> {
+    counted(raw::shuffle_cards(caps, b, places, cards))
+}
+
+/// Whole run: phases until nothing is away, then the shuffle. Refuses with 1 to 6.
+pub fn whole_run(
+    caps: &[u16],
+    b: usize,
+    places: &mut [u16],
+    cards: &mut [u8],
+) -> Result<Counts, Refusal> {
+    counted(raw::whole_run(caps, b, places, cards))
+}
+
+/// Job file: writes the capacities and the places to the front of the two lists,
+/// and hands back N, B, S and the card bytes as a part of the file. [`MAX_RACKS`]
+/// and [`MAX_SLOTS`] are always room enough.
+///
+/// Each number is checked as it is read: its form (14, 15), then 1, 2, 3 or 5;
+/// after the last entry come 6, then 15 or 16 for the card bytes, then 17.
+pub fn read_file<'a>(
+    file: &'a [u8],
+    caps: &mut [u16],
+    places: &mut [u16],
+) -> Result<JobFile<'a>, Refusal> {
+    let answer = raw::read_file(file, caps, places);
+    let job = JobFile {
+        racks: answer.racks,
+        bytes: answer.bytes,
+        slots: answer.slots,
+        cards: &file[answer.place..],
+    };
+    outcome(answer.number, job)
+}

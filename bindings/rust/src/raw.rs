@@ -1,0 +1,290 @@
+//! The proved calls as they are: numbers in, numbers out. Each function is safe,
+//! since a slice is all that the library asks of a list, and takes every input.
+//!
+//! A struct's fields are those of the library's answer: `number` is 0 where the
+//! call is done, else a [`Refusal`](crate::Refusal)'s, and then all else is 0.
+
+/// What every call gives: its number and the counts.
+#[repr(C)]
+#[derive(Clone, Copy, Debug, Default, PartialEq, Eq)]
+pub struct Answer {
+    pub number: usize,
+    pub phases: usize,
+    pub moves: usize,
+    pub copies: usize,
+}
+
+/// What the slot question gives.
+#[repr(C)]
+#[derive(Clone, Copy, Debug, Default, PartialEq, Eq)]
+pub struct SlotAnswer {
+    pub number: usize,
+    pub phases: usize,
+    pub moves: usize,
+    pub copies: usize,
+    /// 0 none, 1 user slot, 2 spare.
+    pub kind: usize,
+    /// 0 none, 1 free, 2 settled, 3 on its rack but unsettled, 4 away.
+    pub state: usize,
+    /// The rack to which the card is away; 0 in every other state.
+    pub rack: usize,
+}
+
+/// What the file reader gives.
+#[repr(C)]
+#[derive(Clone, Copy, Debug, Default, PartialEq, Eq)]
+pub struct FileAnswer {
+    pub number: usize,
+    pub phases: usize,
+    pub moves: usize,
+    pub copies: usize,
+    /// N.
+    pub racks: usize,
+    /// B.
+    pub bytes: usize,
+    /// S.
+    pub slots: usize,
+    /// Where the card bytes begin; they go to the file's end.
+    pub place: usize,
+}
+
+/// The library's functions: a slice is a pointer and a number of entries.
+mod c {
+    use super::{Answer, FileAnswer, SlotAnswer};
+
+    extern "C" {
+        pub fn seineflute_check_table(
+            caps: *const u16,
+            caps_len: usize,
+            places: *const u16,
+            places_len: usize,
+        ) -> Answer;
+
+        pub fn seineflute_slot_question(
+            caps: *const u16,
+            caps_len: usize,
+            places: *const u16,
+            places_len: usize,
+            slot: usize,
+        ) -> SlotAnswer;
+
+        pub fn seineflute_phase_plan(
+            caps: *const u16,
+            caps_len: usize,
+            places: *const u16,
+            places_len: usize,
+            list: *mut u16,
+            list_len: usize,
+        ) -> Answer;
+
+        pub fn seineflute_one_move(
+            caps: *const u16,
+            caps_len: usize,
+            b: usize,
+            places: *mut u16,
+            places_len: usize,
+            cards: *mut u8,
+            cards_len: usize,
+            from: usize,
+            to: usize,
+        ) -> Answer;
+
+        pub fn seineflute_budgeted_moves(
+            caps: *const u16,
+            caps_len: usize,
+            b: usize,
+            places: *mut u16,
+            places_len: usize,
+            cards: *mut u8,
+            cards_len: usize,
+            k: usize,
+        ) -> Answer;
+
+        pub fn seineflute_copy_list(
+            caps: *const u16,
+            caps_len: usize,
+            places: *const u16,
+            places_len: usize,
+            list: *mut u16,
+            list_len: usize,
+        ) -> Answer;
+
+        pub fn seineflute_shuffle_cards(
+            caps: *const u16,
+            caps_len: usize,
+            b: usize,
+            places: *mut u16,
+            places_len: usize,
+            cards: *mut u8,
+            cards_len: usize,
+        ) -> Answer;
+
+        pub fn seineflute_whole_run(
+            caps: *const u16,
+            caps_len: usize,
+            b: usize,
+            places: *mut u16,
+            places_len: usize,
+            cards: *mut u8,
+            cards_len: usize,
+        ) -> Answer;
+
+        pub fn seineflute_read_file(
+            file: *const u8,
+            file_len: usize,
+            caps: *mut u16,
+            caps_len: usize,
+            places: *mut u16,
+            places_len: usize,
+        ) -> FileAnswer;
+    }
+}
+
+// Every call below is sound for one reason: the pointers and lengths are those of
+// slices, so they are aligned, not null and valid, and a `&mut` overlaps no other;
+// the library is proved to read and write inside them only, and keeps none.
+
+/// Table check.
+pub fn check_table(caps: &[u16], places: &[u16]) -> Answer {
+    // SAFETY: as said above.
+    unsafe { c::seineflute_check_table(caps.as_ptr(), caps.len(), places.as_ptr(), places.len()) }
+}
+
+/// Slot question.
+pub fn slot_question(caps: &[u16], places: &[u16], slot: usize) -> SlotAnswer {
+    // SAFETY: as said above.
+    unsafe {
+        c::seineflute_slot_question(
+            caps.as_ptr(),
+            caps.len(),
+            places.as_ptr(),
+            places.len(),
+            slot,
+        )
+    }
+}
+
+/// Phase plan: the pairs stand at the front of `list`, two numbers each.
+pub fn phase_plan(caps: &[u16], places: &[u16], list: &mut [u16]) -> Answer {
+    // SAFETY: as said above.
+    unsafe {
+        c::seineflute_phase_plan(
+            caps.as_ptr(),
+            caps.len(),
+            places.as_ptr(),
+            places.len(),
+            list.as_mut_ptr(),
+            list.len(),
+        )
+    }
+}
+
+/// One move.
+pub fn one_move(
+    caps: &[u16],
+    b: usize,
+    places: &mut [u16],
+    cards: &mut [u8],
+    from: usize,
+    to: usize,
+) -> Answer {
+    // SAFETY: as said above.
+    unsafe {
+        c::seineflute_one_move(
+            caps.as_ptr(),
+            caps.len(),
+            b,
+            places.as_mut_ptr(),
+            places.len(),
+            cards.as_mut_ptr(),
+            cards.len(),
+            from,
+            to,
+        )
+    }
+}
+
+/// Budgeted moves: at most `k`.
+pub fn budgeted_moves(
+    caps: &[u16],
+    b: usize,
+    places: &mut [u16],
+    cards: &mut [u8],
+    k: usize,
+) -> Answer {
+    // SAFETY: as said above.
+    unsafe {
+        c::seineflute_budgeted_moves(
+            caps.as_ptr(),
+            caps.len(),
+            b,
+            places.as_mut_ptr(),
+            places.len(),
+            cards.as_mut_ptr(),
+            cards.len(),
+            k,
+        )
+    }
+}
+
+/// Copy list: the copies stand at the front of `list`, two numbers each.
+pub fn copy_list(caps: &[u16], places: &[u16], list: &mut [u16]) -> Answer {
+    // SAFETY: as said above.
+    unsafe {
+        c::seineflute_copy_list(
+            caps.as_ptr(),
+            caps.len(),
+            places.as_ptr(),
+            places.len(),
+            list.as_mut_ptr(),
+            list.len(),
+        )
+    }
+}
+
+/// Shuffle.
+pub fn shuffle_cards(caps: &[u16], b: usize, places: &mut [u16], cards: &mut [u8]) -> Answer {
+    // SAFETY: as said above.
+    unsafe {
+        c::seineflute_shuffle_cards(
+            caps.as_ptr(),
+            caps.len(),
+            b,
+            places.as_mut_ptr(),
+            places.len(),
+            cards.as_mut_ptr(),
+            cards.len(),
+        )
+    }
+}
+
+/// Whole run.
+pub fn whole_run(caps: &[u16], b: usize, places: &mut [u16], cards: &mut [u8]) -> Answer {
+    // SAFETY: as said above.
+    unsafe {
+        c::seineflute_whole_run(
+            caps.as_ptr(),
+            caps.len(),
+            b,
+            places.as_mut_ptr(),
+            places.len(),
+            cards.as_mut_ptr(),
+            cards.len(),
+        )
+    }
+}
+
+/// Job file: the capacities and the places stand at the front of the two lists.
+pub fn read_file(file: &[u8], caps: &mut [u16], places: &mut [u16]) -> FileAnswer {
+    // SAFETY: as said above.
+    unsafe {
+        c::seineflute_read_file(
+            file.as_ptr(),
+            file.len(),
+            caps.as_mut_ptr(),
+            caps.len(),
+            places.as_mut_ptr(),
+            places.len(),
+        )
+    }
+}

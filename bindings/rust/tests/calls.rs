@@ -1,0 +1,269 @@
+//! The paper cards, cases 1 to 7, 9 and 10, through the safe calls.
+
+use seineflute::{
+    budgeted_moves, check_table, copy_list, one_move, phase_plan, read_file, shuffle_cards,
+    slot_question, whole_run, Counts, JobFile, Kind, Refusal, Slot, State, COPY_ROOM, FREE, HAND,
+    MAX_RACKS, MAX_SLOTS, PLAN_ROOM,
+};
+
+/// Case 1: capacities, places, cards and the file of 21 bytes.
+const CAPS: [u16; 3] = [2, 2, 1];
+const PLACES: [u16; 8] = [3, 4, FREE, 0, 6, FREE, 1, FREE];
+const CARDS: [u8; 8] = *b"AB\0CD\0E\0";
+const FILE: [u8; 21] = *b"\x03\x01\x02\x02\x01\x04\x05\x00\x01\x07\x00\x02\x00AB\0CD\0E\0";
+
+/// Case 3.
+const CYCLE: ([u16; 1], [u16; 3]) = ([2], [1, 0, FREE]);
+
+/// Cases 4 and 5.
+const TWO: [u16; 2] = [1, 1];
+const CASE4: [u16; 4] = [2, FREE, 0, FREE];
+const CASE5: [u16; 4] = [2, 0, FREE, FREE];
+
+fn counts(phases: usize, moves: usize, copies: usize) -> Counts {
+    Counts {
+        phases,
+        moves,
+        copies,
+    }
+}
+
+/// The pairs of a phase plan, and that the rest of the list is unchanged.
+fn plan(caps: &[u16], places: &[u16]) -> Vec<(u16, u16)> {
+    let mut list = [7; PLAN_ROOM];
+    let found = phase_plan(caps, places, &mut list).unwrap();
+    assert_eq!(found, counts(0, found.moves, 0));
+    pairs(&list, found.moves)
+}
+
+/// The copies of a copy list, and that the rest of the list is unchanged.
+fn copies(caps: &[u16], places: &[u16]) -> Vec<(u16, u16)> {
+    let mut list = [7; COPY_ROOM];
+    let found = copy_list(caps, places, &mut list).unwrap();
+    assert_eq!(found, counts(0, 0, found.copies));
+    pairs(&list, found.copies)
+}
+
+fn pairs(list: &[u16], count: usize) -> Vec<(u16, u16)> {
+    let (front, rest) = list.split_at(2 * count);
+    assert!(rest.iter().all(|&x| x == 7));
+    front.chunks(2).map(|two| (two[0], two[1])).collect()
+}
+
+/// Carries the pairs, with cards of one byte.
+fn carry(caps: &[u16], places: &mut [u16], cards: &mut [u8], moves: &[(u16, u16)]) {
+    for &(from, to) in moves {
+        let made = one_move(caps, 1, places, cards, from.into(), to.into());
+        assert_eq!(made, Ok(counts(0, 1, 0)));
+    }
+}
+
+#[test]
+fn case_1_reads() {
+    let mut caps = [9; MAX_RACKS];
+    let mut places = [9; MAX_SLOTS];
+    let job = read_file(&FILE, &mut caps, &mut places).unwrap();
+    let expected = JobFile {
+        racks: 3,
+        bytes: 1,
+        slots: 8,
+        cards: &CARDS,
+    };
+    assert_eq!(job, expected);
+    assert_eq!(caps[..3], CAPS);
+    assert_eq!(places[..8], PLACES);
+    assert!(caps[3..].iter().chain(&places[8..]).all(|&x| x == 9));
+    assert_eq!(job.cards.as_ptr(), FILE[13..].as_ptr());
+}
+
+#[test]
+fn case_1_runs() {
+    let (mut places, mut cards) = (PLACES, CARDS);
+    let done = whole_run(&CAPS, 1, &mut places, &mut cards);
+    assert_eq!(done, Ok(counts(2, 5, 5)));
+    assert_eq!(places, [0, 1, FREE, 3, 4, FREE, 6, FREE]);
+    assert_eq!(cards, *b"CE\0AB\0D\0");
+}
+
+#[test]
+fn case_1_in_steps() {
+    let (mut places, mut cards) = (PLACES, CARDS);
+    let first = plan(&CAPS, &places);
+    assert_eq!(first, [(3, 2), (0, 5), (4, 7)]);
+    carry(&CAPS, &mut places, &mut cards, &first);
+    let second = plan(&CAPS, &places);
+    assert_eq!(second, [(6, 0), (1, 3)]);
+    carry(&CAPS, &mut places, &mut cards, &second);
+    assert_eq!(plan(&CAPS, &places), []);
+    let list = copies(&CAPS, &places);
+    assert_eq!(list, [(0, 1), (2, 0), (3, 4), (5, 3), (7, 6)]);
+    let done = shuffle_cards(&CAPS, 1, &mut places, &mut cards);
+    assert_eq!(done, Ok(counts(0, 0, 5)));
+    assert_eq!(cards, *b"CE\0AB\0D\0");
+}
+
+#[test]
+fn case_1_any_order() {
+    let (mut places, mut cards) = (PLACES, CARDS);
+    let (mut other_places, mut other_cards) = (PLACES, CARDS);
+    carry(&CAPS, &mut places, &mut cards, &[(3, 2), (0, 5), (4, 7)]);
+    carry(
+        &CAPS,
+        &mut other_places,
+        &mut other_cards,
+        &[(4, 7), (3, 2), (0, 5)],
+    );
+    assert_eq!((places, cards), (other_places, other_cards));
+}
+
+#[test]
+fn case_1_asked() {
+    let ask = |slot| slot_question(&CAPS, &PLACES, slot);
+    let slot = |kind, state| Ok(Slot { kind, state });
+    assert_eq!(ask(0), slot(Kind::User, State::Away(1)));
+    assert_eq!(ask(2), slot(Kind::Spare, State::Free));
+    assert_eq!(ask(4), slot(Kind::User, State::Away(2)));
+    assert_eq!(ask(6), slot(Kind::User, State::Away(0)));
+    assert_eq!(ask(8), Err(Refusal::NoSlot));
+    assert_eq!(ask(usize::MAX), Err(Refusal::NoSlot));
+    let ask = |slot| slot_question(&CYCLE.0, &[0, FREE, 1], slot);
+    assert_eq!(ask(0), slot(Kind::User, State::Settled));
+    assert_eq!(ask(1), slot(Kind::User, State::Free));
+    assert_eq!(ask(2), slot(Kind::Spare, State::Unsettled));
+}
+
+#[test]
+fn case_2() {
+    let (mut places, mut cards) = (PLACES, CARDS);
+    let made = budgeted_moves(&CAPS, 1, &mut places, &mut cards, 4);
+    assert_eq!(made, Ok(counts(0, 4, 0)));
+    for slot in 0..8 {
+        let found = slot_question(&CAPS, &places, slot).unwrap();
+        assert_eq!(matches!(found.state, State::Away(_)), slot == 1);
+    }
+    let (mut places, mut cards) = (PLACES, CARDS);
+    let made = budgeted_moves(&CAPS, 1, &mut places, &mut cards, 0);
+    assert_eq!(made, Ok(counts(0, 0, 0)));
+    assert_eq!((places, cards), (PLACES, CARDS));
+    let made = budgeted_moves(&CAPS, 1, &mut places, &mut cards, 9);
+    assert_eq!(made, Ok(counts(0, 5, 0)));
+}
+
+#[test]
+fn case_3() {
+    let (caps, mut places) = CYCLE;
+    assert_eq!(copies(&caps, &places), [(1, HAND), (0, 1), (HAND, 0)]);
+    let mut cards = *b"xyz";
+    let done = shuffle_cards(&caps, 1, &mut places, &mut cards);
+    assert_eq!(done, Ok(counts(0, 0, 3)));
+    assert_eq!((places, cards), ([0, 1, FREE], *b"yx\0"));
+}
+
+#[test]
+fn case_4() {
+    let mut places = CASE4;
+    let moves = plan(&TWO, &places);
+    assert_eq!(moves, [(2, 1), (0, 3)]);
+    carry(&TWO, &mut places, &mut [1, 2, 3, 4], &moves);
+    assert_eq!(copies(&TWO, &places), [(1, 0), (3, 2)]);
+}
+
+#[test]
+fn case_5() {
+    let mut places = CASE5;
+    let moves = plan(&TWO, &places);
+    assert_eq!(moves, [(0, 2)]);
+    carry(&TWO, &mut places, &mut [1, 2, 3, 4], &moves);
+    assert_eq!(copies(&TWO, &places), [(1, 0)]);
+}
+
+#[test]
+fn case_6() {
+    let refused = |table: [u16; 4], from, to| {
+        let (mut places, mut cards) = (table, [1, 2, 3, 4]);
+        let refusal = one_move(&TWO, 1, &mut places, &mut cards, from, to).unwrap_err();
+        assert_eq!((places, cards), (table, [1, 2, 3, 4]));
+        refusal.number()
+    };
+    assert_eq!(refused(CASE4, 0, 0), 10);
+    assert_eq!(refused(CASE4, 1, 3), 8);
+    assert_eq!(refused(CASE4, 0, 4), 7);
+    assert_eq!(refused(CASE4, 0, 2), 11);
+    assert_eq!(refused(CASE5, 1, 2), 9);
+}
+
+#[test]
+fn case_7() {
+    let with = |entry| check_table(&TWO, &[entry, FREE, 0, FREE]);
+    assert_eq!(with(2), Ok(()));
+    assert_eq!(with(3), Err(Refusal::BadEntry));
+    assert_eq!(with(0), Err(Refusal::NamedTwice));
+    let both = check_table(&CYCLE.0, &[2, 2, FREE]);
+    assert_eq!(both, Err(Refusal::BadEntry));
+}
+
+#[test]
+fn case_9() {
+    let check = |caps: &[u16]| {
+        let slots = caps.iter().map(|&m| usize::from(m) + 1).sum();
+        check_table(caps, &vec![FREE; slots])
+    };
+    let mut caps = [63; 64];
+    assert_eq!(check(&caps), Ok(()));
+    caps[17] = 64;
+    assert_eq!(check(&caps), Err(Refusal::BadSize));
+    assert_eq!(check(&[1023]), Ok(()));
+    assert_eq!(check(&[1024]), Err(Refusal::BadSize));
+    let run = |b: usize| whole_run(&CAPS, b, &mut PLACES.clone(), &mut vec![0; 8 * b]);
+    assert_eq!(run(256), Ok(counts(2, 5, 5)));
+    assert_eq!(run(257), Err(Refusal::BadBytes));
+}
+
+#[test]
+fn case_10() {
+    let (caps, mut places, mut cards) = ([0], [FREE], [5]);
+    assert_eq!(check_table(&caps, &places), Ok(()));
+    assert_eq!(plan(&caps, &places), []);
+    assert_eq!(copies(&caps, &places), []);
+    let done = whole_run(&caps, 1, &mut places, &mut cards);
+    assert_eq!(done, Ok(counts(0, 0, 0)));
+    assert_eq!((places, cards), ([FREE], [0]));
+}
+
+#[test]
+fn lists_too_short() {
+    let mut short = [7; 5];
+    let refused = phase_plan(&CAPS, &PLACES, &mut short);
+    assert_eq!(refused, Err(Refusal::TooShort));
+    assert_eq!(short, [7; 5]);
+    let mut exact = [7; 6];
+    assert_eq!(phase_plan(&CAPS, &PLACES, &mut exact), Ok(counts(0, 3, 0)));
+    let away = copy_list(&CAPS, &PLACES, &mut exact);
+    assert_eq!(away, Err(Refusal::SomeAway));
+    let refused = read_file(&FILE, &mut [0; 2], &mut [0; 8]);
+    assert_eq!(refused, Err(Refusal::FileRoom));
+    let refused = read_file(&FILE[..20], &mut [0; 3], &mut [0; 8]);
+    assert_eq!(refused, Err(Refusal::FileEnds));
+}
+
+#[test]
+fn empty_lists() {
+    assert_eq!(check_table(&[], &[]), Err(Refusal::BadCount));
+    assert_eq!(check_table(&[0], &[]), Err(Refusal::BadLength));
+    assert_eq!(phase_plan(&[0], &[FREE], &mut []), Ok(counts(0, 0, 0)));
+    let refused = whole_run(&CAPS, 1, &mut PLACES.clone(), &mut []);
+    assert_eq!(refused, Err(Refusal::BadLength));
+    let refused = read_file(&[], &mut [], &mut []);
+    assert_eq!(refused, Err(Refusal::FileEnds));
+}
+
+#[test]
+fn refusals_have_their_numbers() {
+    for (i, refusal) in Refusal::ALL.into_iter().enumerate() {
+        assert_eq!(refusal.number(), i + 1);
+        assert_eq!(Refusal::from_number(i + 1), Some(refusal));
+        assert!(!refusal.to_string().is_empty());
+    }
+    assert_eq!(Refusal::from_number(0), None);
+    assert_eq!(Refusal::from_number(19), None);
+}

@@ -1,0 +1,79 @@
+/*
+ * Case 1 of the paper cards: reads the job file of 21 bytes, runs it, and prints the number, the
+ * counts, the table and the cards.
+ *
+ *     rt staticlib seineflute
+ *     cc -std=c99 -Wall -Wextra -Iinclude examples/case1.c target/staticlib/libseineflute.a -o target/case1
+ *     target/case1
+ *
+ * from the repository's root; `examples/build` does the same and compares what is printed.
+ */
+#include <stdio.h>
+#include <string.h>
+
+#include "seineflute.h"
+
+static const uint8_t job[21] = {
+    0x03, 0x01,                                     /* N, B */
+    0x02, 0x02, 0x01,                               /* the capacities */
+    0x04, 0x05, 0x00, 0x01, 0x07, 0x00, 0x02, 0x00, /* the entries: 0 free, else destination + 1 */
+    0x41, 0x42, 0x00, 0x43, 0x44, 0x00, 0x45, 0x00  /* the cards */
+};
+
+static void print_answer(const char *call, seineflute_answer a)
+{
+    printf("%s: number %zu phases %zu moves %zu copies %zu\n", call, a.number, a.phases, a.moves, a.copies);
+}
+
+static void print_pairs(const uint16_t *list, size_t pairs)
+{
+    for (size_t i = 0; i < pairs; i++)
+        printf("%s%u>%u", i == 0 ? "" : " ", (unsigned)list[2 * i], (unsigned)list[2 * i + 1]);
+    printf("\n");
+}
+
+int main(void)
+{
+    static uint16_t caps[SEINEFLUTE_MAX_RACKS];
+    static uint16_t places[SEINEFLUTE_MAX_SLOTS];
+    static uint8_t cards[SEINEFLUTE_MAX_SLOTS * SEINEFLUTE_MAX_BYTES];
+    static uint16_t list[SEINEFLUTE_PLAN_ROOM];
+
+    seineflute_file_answer f =
+        seineflute_read_file(job, sizeof job, caps, SEINEFLUTE_MAX_RACKS, places, SEINEFLUTE_MAX_SLOTS);
+    if (f.number != SEINEFLUTE_DONE) {
+        printf("refused %zu\n", f.number);
+        return 1;
+    }
+    size_t n = f.racks, b = f.bytes, s = f.slots;
+    printf("read: racks %zu bytes %zu slots %zu place %zu\n", n, b, s, f.place);
+    memcpy(cards, job + f.place, s * b);
+
+    seineflute_slot_answer q = seineflute_slot_question(caps, n, places, s, 1);
+    printf("slot 1: kind %zu state %zu rack %zu\n", q.kind, q.state, q.rack);
+
+    seineflute_answer a = seineflute_phase_plan(caps, n, places, s, list, SEINEFLUTE_PLAN_ROOM);
+    print_answer("plan", a);
+    print_pairs(list, a.moves);
+
+    a = seineflute_whole_run(caps, n, b, places, s, cards, s * b);
+    print_answer("run", a);
+    if (a.number != SEINEFLUTE_DONE)
+        return 1;
+
+    printf("places:");
+    for (size_t g = 0; g < s; g++) {
+        if (places[g] == SEINEFLUTE_FREE)
+            printf(" free");
+        else
+            printf(" %u", (unsigned)places[g]);
+    }
+    printf("\ncards:");
+    for (size_t g = 0; g < s; g++) {
+        printf(" ");
+        for (size_t i = 0; i < b; i++)
+            printf("%02x", cards[g * b + i]);
+    }
+    printf("\n");
+    return 0;
+}

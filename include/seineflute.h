@@ -1,0 +1,242 @@
+/*
+ * Seineflute moves claim cards between racks without ever losing one.
+ *
+ * Plain C99, for 64-bit Linux on x86-64. Link target/staticlib/libseineflute.a, which
+ * `rt staticlib seineflute` makes. It needs nothing but memcpy and memset, keeps nothing between
+ * calls, allocates nothing, and may be called from many threads at once with different lists.
+ * examples/case1.c is a whole program.
+ *
+ * Racks, slots, tables
+ *
+ * N racks, 1 to 64. Rack p has caps[p] user slots, 0 to 1,023, and one spare after them. The user
+ * slots total at most 4,032. S = total + N, so at most 4,096. Slots are numbered from 0 through all
+ * racks in order: rack 0's user slots, its spare, rack 1's user slots, its spare, and so on.
+ *
+ * places has S entries. Entry g is SEINEFLUTE_FREE if slot g is free, else the slot where the card
+ * in g must end: a user slot that no other entry names. A card is away if that slot is on another
+ * rack, and settled if it is its own slot.
+ *
+ * A card is b bytes, 1 to 256. cards has S * b bytes, slot 0 first.
+ *
+ * What is asked of pointers
+ *
+ * Each list is lent as two arguments: a pointer to its first entry, and then how many entries it has
+ * (entries, not bytes). The pointer must be aligned for its entries and valid for all of them until
+ * the call returns, and it must not be null, not even for a list of no entries: there any address
+ * that is aligned will do, as that of an array which is not looked at. A list that is not const must
+ * not overlap any other list of the same call; lists that are const may overlap each other. This is
+ * all that is asked: every number, and every content of the lists, is allowed, and gets an answer.
+ *
+ * Numbers given back
+ *
+ * Every call gives a number, with counts of phases, moves and copies. A count is 0 where the call
+ * does not speak of it. A number other than SEINEFLUTE_DONE is a refusal: then all counts and all
+ * other fields are 0, and nothing lent has changed. Checks are made in the order of the numbers, and
+ * the first that applies is given; the file reader has an order of its own.
+ *
+ * What a call writes into a lent list starts at its front, and the rest is unchanged.
+ */
+#ifndef SEINEFLUTE_H
+#define SEINEFLUTE_H
+
+#include <stddef.h>
+#include <stdint.h>
+
+#ifdef __cplusplus
+extern "C" {
+#endif
+
+/* Limits. */
+enum {
+    SEINEFLUTE_MAX_RACKS = 64,   /* racks */
+    SEINEFLUTE_MAX_BYTES = 256,  /* bytes of a card */
+    SEINEFLUTE_MAX_USERS = 1023, /* user slots of a rack */
+    SEINEFLUTE_MAX_TOTAL = 4032, /* user slots of all racks */
+    SEINEFLUTE_MAX_SLOTS = 4096  /* slots, spares among them */
+};
+
+/* Room that is enough in every job for a list of pairs, two numbers each. */
+enum {
+    SEINEFLUTE_PLAN_ROOM = 8192, /* of the phase plan: at most a pair for each slot */
+    SEINEFLUTE_COPY_ROOM = 12288 /* of the copy list: at most three copies for two slots */
+};
+
+/* Marks. */
+enum {
+    SEINEFLUTE_FREE = 65535, /* in a places table: the slot is free */
+    SEINEFLUTE_HAND = 65534  /* in a copy list: the hand, which belongs to the library */
+};
+
+/* Numbers given back. */
+enum {
+    SEINEFLUTE_DONE = 0,
+    SEINEFLUTE_BAD_COUNT = 1,         /* N is 0 or above 64 */
+    SEINEFLUTE_BAD_BYTES = 2,         /* B is 0 or above 256 */
+    SEINEFLUTE_BAD_SIZE = 3,          /* a rack's user slots above 1,023, or the total above 4,032 */
+    SEINEFLUTE_BAD_LENGTH = 4,        /* places is not S long, or cards is lent and not S * B long */
+    SEINEFLUTE_BAD_ENTRY = 5,         /* an entry is neither free nor a user slot */
+    SEINEFLUTE_NAMED_TWICE = 6,       /* two entries name one slot */
+    SEINEFLUTE_NO_SLOT = 7,           /* a slot number in the call is S or more */
+    SEINEFLUTE_SOURCE_FREE = 8,       /* the source slot is free */
+    SEINEFLUTE_SOURCE_HOME = 9,       /* the source's card is on its rack already */
+    SEINEFLUTE_ELSEWHERE = 10,        /* the target is not on the card's destination rack */
+    SEINEFLUTE_TARGET_TAKEN = 11,     /* the target is not free */
+    SEINEFLUTE_SOME_AWAY = 12,        /* a card is away (copy list and shuffle only) */
+    SEINEFLUTE_TOO_SHORT = 13,        /* the lent list is too short for what would be written */
+    SEINEFLUTE_FILE_FORM = 14,        /* file: a number not in its shortest form, or of more than three groups */
+    SEINEFLUTE_FILE_ENDS = 15,        /* file: it ends too early */
+    SEINEFLUTE_FILE_LEFT_OVER = 16,   /* file: bytes left over */
+    SEINEFLUTE_FILE_ROOM = 17,        /* file: room for capacities below N, or for places below S */
+    SEINEFLUTE_FILE_LARGE = 18        /* listing only: file above 32,768 bytes; it stands in the text */
+};
+
+/* The kinds of a slot. */
+enum {
+    SEINEFLUTE_KIND_NONE = 0, /* on a refusal */
+    SEINEFLUTE_KIND_USER = 1,
+    SEINEFLUTE_KIND_SPARE = 2
+};
+
+/* What stands in a slot. */
+enum {
+    SEINEFLUTE_STATE_NONE = 0, /* on a refusal */
+    SEINEFLUTE_STATE_FREE = 1,
+    SEINEFLUTE_STATE_SETTLED = 2,
+    SEINEFLUTE_STATE_UNSETTLED = 3, /* on its rack, but not in its slot */
+    SEINEFLUTE_STATE_AWAY = 4       /* its slot is on another rack, which the field `rack` says */
+};
+
+/* What every call gives. */
+typedef struct seineflute_answer {
+    size_t number;
+    size_t phases;
+    size_t moves;
+    size_t copies;
+} seineflute_answer;
+
+/* What the slot question gives. */
+typedef struct seineflute_slot_answer {
+    size_t number;
+    size_t phases;
+    size_t moves;
+    size_t copies;
+    size_t kind;
+    size_t state;
+    size_t rack; /* the destination's rack of a card that is away; 0 in every other state */
+} seineflute_slot_answer;
+
+/* What the file reader gives. */
+typedef struct seineflute_file_answer {
+    size_t number;
+    size_t phases;
+    size_t moves;
+    size_t copies;
+    size_t racks; /* N */
+    size_t bytes; /* B */
+    size_t slots; /* S */
+    size_t place; /* where the card bytes begin: they are file[place] to the file's end */
+} seineflute_file_answer;
+
+/*
+ * Table check. Gives 0 for a legal table, else 1, 3, 4, 5 or 6. All counts are 0.
+ */
+seineflute_answer seineflute_check_table(
+    const uint16_t *caps, size_t caps_len,
+    const uint16_t *places, size_t places_len);
+
+/*
+ * Slot question. Says whether a slot is a user slot or a spare, and whether it is free or its card
+ * settled, on its rack but unsettled, or away and to which rack. Gives 0, 1, 3, 4, 5, 6 or 7; on a
+ * refusal kind and state are none.
+ */
+seineflute_slot_answer seineflute_slot_question(
+    const uint16_t *caps, size_t caps_len,
+    const uint16_t *places, size_t places_len,
+    size_t slot);
+
+/*
+ * Phase plan. Writes the pairs (from, to) of the present phase to the front of the list, two numbers
+ * each, by target rack, source rack and source slot. Each rack takes as many cards as it has free
+ * slots at the start of the phase, from the lowest source rack up, and of each source those in the
+ * lowest slots; they take its free slots from the lowest up. The moves count is the number of pairs,
+ * 0 where nothing is away. Gives 0, 1, 3, 4, 5, 6 or 13.
+ */
+seineflute_answer seineflute_phase_plan(
+    const uint16_t *caps, size_t caps_len,
+    const uint16_t *places, size_t places_len,
+    uint16_t *list, size_t list_len);
+
+/*
+ * One move. The card in slot `from`, which must be away, goes to slot `to`, which must be free and on
+ * the card's destination rack. The target gets the card's bytes and entry; the source becomes free
+ * and all zero; nothing else changes. The moves count is 1. Gives 0 to 11. The pairs of one plan,
+ * each moved once in any order, give the same cards and table.
+ */
+seineflute_answer seineflute_one_move(
+    const uint16_t *caps, size_t caps_len,
+    size_t b,
+    uint16_t *places, size_t places_len,
+    uint8_t *cards, size_t cards_len,
+    size_t from, size_t to);
+
+/*
+ * Budgeted moves. Makes at most k moves: the present phase's pairs in plan order, a new plan when they
+ * are used up. The moves count is the smaller of k and the cards away at entry. Gives 0 to 6. The next
+ * call plans afresh.
+ */
+seineflute_answer seineflute_budgeted_moves(
+    const uint16_t *caps, size_t caps_len,
+    size_t b,
+    uint16_t *places, size_t places_len,
+    uint8_t *cards, size_t cards_len,
+    size_t k);
+
+/*
+ * Copy list, with nothing away. Writes to the front of the list the copies that bring each card to its
+ * slot inside its rack, two numbers each: from, then to. The hand, in which a cycle's last card waits,
+ * is SEINEFLUTE_HAND. The copies count is the number of copies. Gives 0, 1, 3, 4, 5, 6, 12 or 13.
+ */
+seineflute_answer seineflute_copy_list(
+    const uint16_t *caps, size_t caps_len,
+    const uint16_t *places, size_t places_len,
+    uint16_t *list, size_t list_len);
+
+/*
+ * Shuffle, with nothing away. Makes the copies of the copy list, then zeroes every free slot. Each
+ * settled slot's entry now names itself, and every other is SEINEFLUTE_FREE. The copies count is the
+ * number of copies. Gives 0 to 6 or 12.
+ */
+seineflute_answer seineflute_shuffle_cards(
+    const uint16_t *caps, size_t caps_len,
+    size_t b,
+    uint16_t *places, size_t places_len,
+    uint8_t *cards, size_t cards_len);
+
+/*
+ * Whole run. Phases until nothing is away, then the shuffle: at the end every card is in its slot.
+ * The counts are the plans that had pairs, the pairs moved and the shuffle's copies. Gives 0 to 6.
+ */
+seineflute_answer seineflute_whole_run(
+    const uint16_t *caps, size_t caps_len,
+    size_t b,
+    uint16_t *places, size_t places_len,
+    uint8_t *cards, size_t cards_len);
+
+/*
+ * Job file. Reads N, B, the capacities, S entries (0 free, else destination + 1) and S * B card bytes,
+ * and writes the capacities and the places to the front of the two lists. Numbers are groups of seven
+ * bits, lowest first, top bit set where another follows, shortest form, at most three groups. The
+ * card bytes stay where they are, from `place` to the file's end. Each number is checked as it is
+ * read: form (14, 15), then 1, 2, 3 or 5; after the last entry come 6, then 15 or 16 for the card
+ * bytes, then 17. All counts are 0. MAX_RACKS capacities and MAX_SLOTS places are room for every job.
+ */
+seineflute_file_answer seineflute_read_file(
+    const uint8_t *file, size_t file_len,
+    uint16_t *caps, size_t caps_len,
+    uint16_t *places, size_t places_len);
+
+#ifdef __cplusplus
+}
+#endif
+
+#endif
