@@ -1,0 +1,199 @@
+//! How much stack each call takes, at the largest jobs: makes each call on a
+//! painted stack of its own, and looks how far down the paint is gone.
+//!
+//!     cargo run --release --offline --example stack
+
+#[cfg(not(all(target_arch = "x86_64", target_os = "linux")))]
+fn main() {
+    println!("the library is for Linux on x86-64 only");
+}
+
+#[cfg(all(target_arch = "x86_64", target_os = "linux"))]
+fn main() {
+    measured::table();
+}
+
+#[cfg(all(target_arch = "x86_64", target_os = "linux"))]
+mod measured {
+    use seineflute::{raw, COPY_ROOM, FREE, MAX_BYTES, MAX_RACKS, MAX_SLOTS, PLAN_ROOM};
+    use std::arch::asm;
+
+    /// The painted stack, in words: 2 MB, far more than the deepest call takes.
+    const WORDS: usize = 1 << 18;
+    const PAINT: u64 = 0x5EA1_F1A7_E5EA_F1A7;
+
+    /// A job with the room that calls are lent.
+    #[derive(Clone)]
+    struct Job {
+        caps: Vec<u16>,
+        places: Vec<u16>,
+        cards: Vec<u8>,
+        list: Vec<u16>,
+        file: Vec<u8>,
+        number: usize,
+    }
+
+    type Call = extern "C" fn(&mut Job);
+
+    const B: usize = MAX_BYTES;
+
+    /// Nothing, to see what a call on the painted stack takes by itself.
+    extern "C" fn nothing(job: &mut Job) {
+        job.number = 0;
+    }
+
+    extern "C" fn check_table(job: &mut Job) {
+        job.number = raw::check_table(&job.caps, &job.places).number;
+    }
+
+    extern "C" fn slot_question(job: &mut Job) {
+        job.number = raw::slot_question(&job.caps, &job.places, 1).number;
+    }
+
+    extern "C" fn phase_plan(job: &mut Job) {
+        job.number = raw::phase_plan(&job.caps, &job.places, &mut job.list).number;
+    }
+
+    /// From the first card to the next rack's spare, where the ring has it free.
+    extern "C" fn one_move(job: &mut Job) {
+        let to = usize::from(job.caps[0]) + 1 + usize::from(job.caps[1]);
+        let (places, cards) = (&mut job.places, &mut job.cards);
+        job.number = raw::one_move(&job.caps, B, places, cards, 0, to).number;
+    }
+
+    extern "C" fn budgeted_moves(job: &mut Job) {
+        let (places, cards) = (&mut job.places, &mut job.cards);
+        job.number = raw::budgeted_moves(&job.caps, B, places, cards, usize::MAX).number;
+    }
+
+    extern "C" fn copy_list(job: &mut Job) {
+        job.number = raw::copy_list(&job.caps, &job.places, &mut job.list).number;
+    }
+
+    extern "C" fn shuffle_cards(job: &mut Job) {
+        let (places, cards) = (&mut job.places, &mut job.cards);
+        job.number = raw::shuffle_cards(&job.caps, B, places, cards).number;
+    }
+
+    extern "C" fn whole_run(job: &mut Job) {
+        let (places, cards) = (&mut job.places, &mut job.cards);
+        job.number = raw::whole_run(&job.caps, B, places, cards).number;
+    }
+
+    extern "C" fn read_file(job: &mut Job) {
+        let (caps, places) = (&mut job.caps, &mut job.places);
+        job.number = raw::read_file(&job.file, caps, places).number;
+    }
+
+    /// The bytes of stack that a call takes.
+    fn depth(call: Call, job: &mut Job) -> usize {
+        let mut stack = vec![PAINT; WORDS];
+        // SAFETY: the call runs on memory that is ours and large enough, as is
+        // looked at below; the stack pointer is 16-aligned there, is kept in a
+        // register that a callee keeps, and comes back before anything else.
+        unsafe {
+            let top = stack.as_mut_ptr().add(WORDS) as usize & !15;
+            asm!(
+                "mov r12, rsp",
+                "mov rsp, {top}",
+                "call {call}",
+                "mov rsp, r12",
+                top = in(reg) top,
+                call = in(reg) call,
+                inout("rdi") job => _,
+                out("r12") _,
+                clobber_abi("C"),
+            );
+        }
+        let kept = stack.iter().take_while(|&&word| word == PAINT).count();
+        assert!(kept > 0, "the painted stack is too small");
+        8 * (WORDS - kept)
+    }
+
+    /// A job of racks, and for slot u of a rack with m user slots the rack, from
+    /// its own, and the user slot that it names.
+    fn job(caps: &[u16], entry: impl Fn(usize, usize) -> Option<(usize, usize)>) -> Job {
+        let base = |p: usize| -> usize { caps[..p].iter().map(|&m| usize::from(m) + 1).sum() };
+        let mut places = Vec::new();
+        for (p, &m) in caps.iter().enumerate() {
+            let m = usize::from(m);
+            places.extend((0..=m).map(|u| match entry(u, m) {
+                Some((on, slot)) => (base((p + on) % caps.len()) + slot) as u16,
+                None => FREE,
+            }));
+        }
+        let cards = vec![1; places.len() * B];
+        let mut file = Vec::new();
+        number(&mut file, caps.len());
+        number(&mut file, B);
+        caps.iter().for_each(|&m| number(&mut file, m.into()));
+        for &e in &places {
+            number(&mut file, if e == FREE { 0 } else { usize::from(e) + 1 });
+        }
+        file.extend(&cards);
+        Job {
+            caps: caps.to_vec(),
+            places,
+            cards,
+            list: vec![0; PLAN_ROOM.max(COPY_ROOM)],
+            file,
+            number: usize::MAX,
+        }
+    }
+
+    /// A number of a job file.
+    fn number(file: &mut Vec<u8>, mut x: usize) {
+        while x >= 128 {
+            file.push((x % 128) as u8 | 128);
+            x /= 128;
+        }
+        file.push(x as u8);
+    }
+
+    /// Calls on the painted stack and prints a line for each.
+    pub fn table() {
+        // 64 racks, each card away to the same slot of the next rack.
+        let ring = job(&[63; MAX_RACKS], |u, m| (u < m).then_some((1, u)));
+        assert_eq!(ring.places.len(), MAX_SLOTS);
+        // The longest racks, each rack one shift: the spare's card to slot 0, and
+        // each card to the slot after it, which it finds free at the end.
+        let long = [1023, 1023, 1023, 963];
+        let shift = job(&long, |u, m| match u {
+            _ if u == m => Some((0, 0)),
+            _ if u + 1 == m => None,
+            _ => Some((0, u + 1)),
+        });
+        // The same racks, each rack one cycle of its user slots.
+        let cycle = job(&long, |u, m| (u < m).then_some((0, (u + 1) % m)));
+        // The same racks, each rack's cards away to the next rack, one slot on.
+        let turned = job(&long[..3], |u, m| (u < m).then_some((1, (u + 1) % m)));
+
+        let calls: [(&str, Call); 10] = [
+            ("nothing", nothing),
+            ("check_table", check_table),
+            ("slot_question", slot_question),
+            ("phase_plan", phase_plan),
+            ("one_move", one_move),
+            ("budgeted_moves", budgeted_moves),
+            ("copy_list", copy_list),
+            ("shuffle_cards", shuffle_cards),
+            ("whole_run", whole_run),
+            ("read_file", read_file),
+        ];
+        let jobs = [ring, shift, cycle, turned];
+        println!("bytes of stack; in brackets the number that the call gave");
+        println!(
+            "{:16}{:>14}{:>14}{:>14}{:>14}",
+            "", "ring", "shift", "cycle", "turned"
+        );
+        for (name, call) in calls {
+            print!("{name:16}");
+            for job in &jobs {
+                let mut job = job.clone();
+                let bytes = depth(call, &mut job);
+                print!("{:>14}", format!("{bytes} [{}]", job.number));
+            }
+            println!();
+        }
+    }
+}
