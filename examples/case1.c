@@ -1,6 +1,6 @@
 /*
- * Case 1 of the paper cards: reads the job file of 21 bytes, runs it, and prints the number, the
- * counts, the table and the cards.
+ * Case 1 of the paper cards: reads the job file of 21 bytes, runs it, prints the number, the counts,
+ * the table and the cards, and then the listing of the file.
  *
  *     rt staticlib seineflute
  *     cc -std=c99 -Wall -Wextra -Iinclude examples/case1.c target/staticlib/libseineflute.a -o target/case1
@@ -75,5 +75,9 @@ int main(void)
             printf("%02x", cards[g * b + i]);
     }
     printf("\n");
+
+    static uint8_t text[SEINEFLUTE_TEXT_ROOM];
+    seineflute_listing_answer l = seineflute_list_job(job, sizeof job, text, sizeof text);
+    fwrite(text, 1, l.size, stdout);
     return 0;
 }

@@ -27,6 +27,13 @@
  * not overlap any other list of the same call; lists that are const may overlap each other. This is
  * all that is asked: every number, and every content of the lists, is allowed, and gets an answer.
  *
+ * What is asked of the stack
+ *
+ * There is no heap, so a call's tables lie on the caller's stack. Measured at the largest jobs, in KB of
+ * 1,024 bytes: table check 5; slot question and one move 9; phase plan and file reader 14; budgeted moves
+ * 30; copy list 89; shuffle 94; whole run 130; listing 402. Large frames are touched page by page, so a
+ * stack that is too small ends in its guard page. bindings/rust/examples/stack.rs measures anew.
+ *
  * Numbers given back
  *
  * Every call gives a number, with counts of phases, moves and copies. A count is 0 where the call
@@ -52,13 +59,15 @@ enum {
     SEINEFLUTE_MAX_BYTES = 256,  /* bytes of a card */
     SEINEFLUTE_MAX_USERS = 1023, /* user slots of a rack */
     SEINEFLUTE_MAX_TOTAL = 4032, /* user slots of all racks */
-    SEINEFLUTE_MAX_SLOTS = 4096  /* slots, spares among them */
+    SEINEFLUTE_MAX_SLOTS = 4096, /* slots, spares among them */
+    SEINEFLUTE_MAX_FILE = 32768  /* bytes of a file that is listed */
 };
 
-/* Room that is enough in every job for a list of pairs, two numbers each. */
+/* Room that is enough in every job. */
 enum {
-    SEINEFLUTE_PLAN_ROOM = 8192, /* of the phase plan: at most a pair for each slot */
-    SEINEFLUTE_COPY_ROOM = 12288 /* of the copy list: at most three copies for two slots */
+    SEINEFLUTE_PLAN_ROOM = 8192,  /* numbers of the phase plan: at most a pair for each slot */
+    SEINEFLUTE_COPY_ROOM = 12288, /* numbers of the copy list: at most three copies for two slots */
+    SEINEFLUTE_TEXT_ROOM = 245818 /* bytes of the listing */
 };
 
 /* Marks. */
@@ -87,7 +96,7 @@ enum {
     SEINEFLUTE_FILE_ENDS = 15,        /* file: it ends too early */
     SEINEFLUTE_FILE_LEFT_OVER = 16,   /* file: bytes left over */
     SEINEFLUTE_FILE_ROOM = 17,        /* file: room for capacities below N, or for places below S */
-    SEINEFLUTE_FILE_LARGE = 18        /* listing only: file above 32,768 bytes; it stands in the text */
+    SEINEFLUTE_FILE_LARGE = 18        /* in a listing's text only: file above 32,768 bytes */
 };
 
 /* The kinds of a slot. */
@@ -136,6 +145,15 @@ typedef struct seineflute_file_answer {
     size_t slots; /* S */
     size_t place; /* where the card bytes begin: they are file[place] to the file's end */
 } seineflute_file_answer;
+
+/* What the listing gives. */
+typedef struct seineflute_listing_answer {
+    size_t number;
+    size_t phases;
+    size_t moves;
+    size_t copies;
+    size_t size; /* the bytes of the text */
+} seineflute_listing_answer;
 
 /*
  * Table check. Gives 0 for a legal table, else 1, 3, 4, 5 or 6. All counts are 0.
@@ -234,6 +252,18 @@ seineflute_file_answer seineflute_read_file(
     const uint8_t *file, size_t file_len,
     uint16_t *caps, size_t caps_len,
     uint16_t *places, size_t places_len);
+
+/*
+ * Listing. Writes to the front of the buffer the text that the program shelve prints for a job file: a
+ * line for each phase, the copies, the cards and the counts; or, for a file that the reader refuses or
+ * that has more than 32,768 bytes (18), the one line `refused` with that number. Both are texts, and
+ * their number is 0: the only refusal of the call itself is 13, where the buffer is too short for the
+ * text. The text has `size` bytes, with no zero byte behind it. All counts are 0: they stand in the
+ * text. SEINEFLUTE_TEXT_ROOM bytes are room for every text.
+ */
+seineflute_listing_answer seineflute_list_job(
+    const uint8_t *file, size_t file_len,
+    uint8_t *out, size_t out_len);
 
 #ifdef __cplusplus
 }

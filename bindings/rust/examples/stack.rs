@@ -15,7 +15,7 @@ fn main() {
 
 #[cfg(all(target_arch = "x86_64", target_os = "linux"))]
 mod measured {
-    use seineflute::{raw, COPY_ROOM, FREE, MAX_BYTES, MAX_RACKS, MAX_SLOTS, PLAN_ROOM};
+    use seineflute::{raw, COPY_ROOM, FREE, MAX_BYTES, MAX_RACKS, MAX_SLOTS, PLAN_ROOM, TEXT_ROOM};
     use std::arch::asm;
 
     /// The painted stack, in words: 2 MB, far more than the deepest call takes.
@@ -30,6 +30,8 @@ mod measured {
         cards: Vec<u8>,
         list: Vec<u16>,
         file: Vec<u8>,
+        small: Vec<u8>,
+        text: Vec<u8>,
         number: usize,
     }
 
@@ -85,6 +87,11 @@ mod measured {
         job.number = raw::read_file(&job.file, caps, places).number;
     }
 
+    /// The same job with cards of one byte, or its file is too large.
+    extern "C" fn list_job(job: &mut Job) {
+        job.number = raw::list_job(&job.small, &mut job.text).number;
+    }
+
     /// The bytes of stack that a call takes.
     fn depth(call: Call, job: &mut Job) -> usize {
         let mut stack = vec![PAINT; WORDS];
@@ -122,23 +129,29 @@ mod measured {
                 None => FREE,
             }));
         }
-        let cards = vec![1; places.len() * B];
-        let mut file = Vec::new();
-        number(&mut file, caps.len());
-        number(&mut file, B);
-        caps.iter().for_each(|&m| number(&mut file, m.into()));
-        for &e in &places {
-            number(&mut file, if e == FREE { 0 } else { usize::from(e) + 1 });
-        }
-        file.extend(&cards);
         Job {
             caps: caps.to_vec(),
-            places,
-            cards,
+            cards: vec![1; places.len() * B],
             list: vec![0; PLAN_ROOM.max(COPY_ROOM)],
-            file,
+            file: file(caps, B, &places),
+            small: file(caps, 1, &places),
+            text: vec![0; TEXT_ROOM],
+            places,
             number: usize::MAX,
         }
+    }
+
+    /// The file of a job with cards of b bytes.
+    fn file(caps: &[u16], b: usize, places: &[u16]) -> Vec<u8> {
+        let mut file = Vec::new();
+        number(&mut file, caps.len());
+        number(&mut file, b);
+        caps.iter().for_each(|&m| number(&mut file, m.into()));
+        for &e in places {
+            number(&mut file, if e == FREE { 0 } else { usize::from(e) + 1 });
+        }
+        file.extend(vec![1; places.len() * b]);
+        file
     }
 
     /// A number of a job file.
@@ -168,7 +181,7 @@ mod measured {
         // The same racks, each rack's cards away to the next rack, one slot on.
         let turned = job(&long[..3], |u, m| (u < m).then_some((1, (u + 1) % m)));
 
-        let calls: [(&str, Call); 10] = [
+        let calls: [(&str, Call); 11] = [
             ("nothing", nothing),
             ("check_table", check_table),
             ("slot_question", slot_question),
@@ -179,6 +192,7 @@ mod measured {
             ("shuffle_cards", shuffle_cards),
             ("whole_run", whole_run),
             ("read_file", read_file),
+            ("list_job", list_job),
         ];
         let jobs = [ring, shift, cycle, turned];
         println!("bytes of stack; in brackets the number that the call gave");

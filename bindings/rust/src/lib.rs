@@ -25,6 +25,10 @@
 //!
 //! A refusal changes nothing that is lent.
 //!
+//! There is no heap: a call's tables lie on the caller's stack. The whole run takes
+//! up to 130 KB of it, the listing 402 KB, every other call less than 96 KB
+//! (`examples/stack.rs` measures it).
+//!
 //! ```
 //! use seineflute::{read_file, whole_run, Counts, FREE, MAX_RACKS, MAX_SLOTS};
 //!
@@ -80,6 +84,12 @@ pub const PLAN_ROOM: usize = 2 * MAX_SLOTS;
 
 /// Room for the copy list of every job: three copies for two slots.
 pub const COPY_ROOM: usize = 3 * MAX_SLOTS;
+
+/// Room for the listing's text of every file.
+pub const TEXT_ROOM: usize = 245_818;
+
+/// The most bytes of a file that is listed.
+pub const MAX_FILE: usize = 32_768;
 
 /// Why a call did nothing. Checks are made in this order and the first that
 /// applies is given; the file reader has an order of its own ([`read_file`]).
@@ -356,4 +366,22 @@ pub fn read_file<'a>(
         cards: &file[answer.place..],
     };
     outcome(answer.number, job)
+}
+
+/// Listing: writes to the front of `out` the text that the program *shelve* prints
+/// for a job file, and hands that part back. [`TEXT_ROOM`] is always room enough.
+///
+/// The text of a file that the reader refuses, or that is above [`MAX_FILE`] (18),
+/// is the line `refused` with the number; it is a text like any other. The call
+/// itself refuses with 13 alone, where `out` is too short for the text.
+///
+/// ```
+/// let mut out = vec![0; seineflute::TEXT_ROOM];
+/// let text = seineflute::list_job(&[1, 1, 1, 2, 0, 65, 66], &mut out)?;
+/// assert_eq!(text, b"refused 5\n");
+/// # Ok::<(), seineflute::Refusal>(())
+/// ```
+pub fn list_job<'a>(file: &[u8], out: &'a mut [u8]) -> Result<&'a [u8], Refusal> {
+    let answer = raw::list_job(file, out);
+    outcome(answer.number, &out[..answer.size])
 }

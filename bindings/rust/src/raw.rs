@@ -48,9 +48,21 @@ pub struct FileAnswer {
     pub place: usize,
 }
 
+/// What the listing gives.
+#[repr(C)]
+#[derive(Clone, Copy, Debug, Default, PartialEq, Eq)]
+pub struct ListingAnswer {
+    pub number: usize,
+    pub phases: usize,
+    pub moves: usize,
+    pub copies: usize,
+    /// The bytes of the text.
+    pub size: usize,
+}
+
 /// The library's functions: a slice is a pointer and a number of entries.
 mod c {
-    use super::{Answer, FileAnswer, SlotAnswer};
+    use super::{Answer, FileAnswer, ListingAnswer, SlotAnswer};
 
     extern "C" {
         pub fn seineflute_check_table(
@@ -137,6 +149,13 @@ mod c {
             places: *mut u16,
             places_len: usize,
         ) -> FileAnswer;
+
+        pub fn seineflute_list_job(
+            file: *const u8,
+            file_len: usize,
+            out: *mut u8,
+            out_len: usize,
+        ) -> ListingAnswer;
     }
 }
 
@@ -287,4 +306,11 @@ pub fn read_file(file: &[u8], caps: &mut [u16], places: &mut [u16]) -> FileAnswe
             places.len(),
         )
     }
+}
+
+/// Listing: the text stands at the front of `out`. A text that says `refused` is a
+/// text like any other.
+pub fn list_job(file: &[u8], out: &mut [u8]) -> ListingAnswer {
+    // SAFETY: as said above.
+    unsafe { c::seineflute_list_job(file.as_ptr(), file.len(), out.as_mut_ptr(), out.len()) }
 }

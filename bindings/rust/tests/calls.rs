@@ -1,9 +1,9 @@
 //! The paper cards, cases 1 to 7, 9 and 10, through the safe calls.
 
 use seineflute::{
-    budgeted_moves, check_table, copy_list, one_move, phase_plan, read_file, shuffle_cards,
-    slot_question, whole_run, Counts, JobFile, Kind, Refusal, Slot, State, COPY_ROOM, FREE, HAND,
-    MAX_RACKS, MAX_SLOTS, PLAN_ROOM,
+    budgeted_moves, check_table, copy_list, list_job, one_move, phase_plan, read_file,
+    shuffle_cards, slot_question, whole_run, Counts, JobFile, Kind, Refusal, Slot, State,
+    COPY_ROOM, FREE, HAND, MAX_FILE, MAX_RACKS, MAX_SLOTS, PLAN_ROOM, TEXT_ROOM,
 };
 
 /// Case 1: capacities, places, cards and the file of 21 bytes.
@@ -130,6 +130,29 @@ fn case_1_asked() {
     assert_eq!(ask(0), slot(Kind::User, State::Settled));
     assert_eq!(ask(1), slot(Kind::User, State::Free));
     assert_eq!(ask(2), slot(Kind::Spare, State::Unsettled));
+}
+
+#[test]
+fn case_1_listed() {
+    const TEXT: &str = "\
+phase 1: 3>2 0>5 4>7
+phase 2: 6>0 1>3
+copies: 0>1 2>0 3>4 5>3 7>6
+cards: 43 45 00 41 42 00 44 00
+end: phases 2 moves 5 copies 5
+";
+    let mut out = vec![7; TEXT_ROOM];
+    assert_eq!(list_job(&FILE, &mut out), Ok(TEXT.as_bytes()));
+    assert!(out[TEXT.len()..].iter().all(|&x| x == 7));
+    let mut exact = vec![7; TEXT.len()];
+    assert_eq!(list_job(&FILE, &mut exact), Ok(TEXT.as_bytes()));
+    let mut short = vec![7; TEXT.len() - 1];
+    assert_eq!(list_job(&FILE, &mut short), Err(Refusal::TooShort));
+    assert!(short.iter().all(|&x| x == 7));
+    let refused = list_job(&vec![0; MAX_FILE + 1], &mut out);
+    assert_eq!(refused, Ok(&b"refused 18\n"[..]));
+    let refused = list_job(&FILE[..20], &mut out);
+    assert_eq!(refused, Ok(&b"refused 15\n"[..]));
 }
 
 #[test]
