@@ -83,7 +83,8 @@ enum {
     SEINEFLUTE_BAD_BYTES = 2,         /* B is 0 or above 256 */
     SEINEFLUTE_BAD_SIZE = 3,          /* a rack's user slots above 1,023, or the total above 4,032 */
     SEINEFLUTE_BAD_LENGTH = 4,        /* places is not S long, or cards is lent and not S * B long */
-    SEINEFLUTE_BAD_ENTRY = 5,         /* an entry is neither free nor a user slot */
+    SEINEFLUTE_BAD_ENTRY = 5,         /* an entry is neither free nor a user slot; in a file, it is not 0 and
+                                         one less than it is no user slot */
     SEINEFLUTE_NAMED_TWICE = 6,       /* two entries name one slot */
     SEINEFLUTE_NO_SLOT = 7,           /* a slot number in the call is S or more */
     SEINEFLUTE_SOURCE_FREE = 8,       /* the source slot is free */

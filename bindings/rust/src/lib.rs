@@ -103,7 +103,8 @@ pub enum Refusal {
     BadSize = 3,
     /// 4: places is not S long, or cards is lent and not S·B long.
     BadLength = 4,
-    /// 5: an entry is neither free nor a user slot.
+    /// 5: an entry is neither free nor a user slot; in a file, it is not 0 and one
+    /// less than it is no user slot.
     BadEntry = 5,
     /// 6: two entries name one slot.
     NamedTwice = 6,
@@ -175,7 +176,10 @@ impl fmt::Display for Refusal {
             Refusal::BadBytes => "B is 0 or above 256",
             Refusal::BadSize => "some m_p above 1,023, or the total above 4,032",
             Refusal::BadLength => "places is not S long, or cards is lent and not S·B long",
-            Refusal::BadEntry => "an entry is neither 65,535 nor a user slot",
+            Refusal::BadEntry => {
+                "an entry is neither 65,535 nor a user slot; \
+                 in a file, it is not 0 and one less than it is no user slot"
+            }
             Refusal::NamedTwice => "two entries name one slot",
             Refusal::NoSlot => "a slot number in the call is S or more",
             Refusal::SourceFree => "the source slot is free",
