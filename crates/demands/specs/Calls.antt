@@ -1,0 +1,43 @@
+-- Calls on one table and its cards, one after another, refused ones among them. Assumes nothing: these are definitions.
+use mathlib.Core.List.{List, [], _∷_, _++_}
+use Prim.Native.Nat.{ℕ, _+_}
+use Rattle.counting.specs.Tests.{pick}
+use Rattle.counting.specs.Lists.{Pair}
+use Rattle.counting.specs.Checks.{done}
+use Rattle.racks.specs.Racks.{Rack}
+use Rattle.moves.specs.Moves.{Held, Outcome, moved}
+use Rattle.moves.specs.Phases.{budget, budgeted}
+
+-- a call: a single move with any from and to, or budgeted moves with any k
+pub data Call : Type 0 where
+  single : ℕ → ℕ → Call
+  atMost : ℕ → Call
+
+-- what a call gives and leaves: the outcome that its contract names
+unfoldable pub called : List Rack → ℕ → Held → Call → Outcome
+called racks b h (single from to) = moved racks b h (from, to)
+called racks b h (atMost k) = budgeted racks b h k
+
+-- the moves that a call asks for
+unfoldable pub asks : List Rack → Held → Call → List Pair
+asks racks h (single from to) = (from, to) ∷ []
+asks racks h (atMost k) = budget racks k (h .places)
+
+-- the moves that it makes: these, or none where it is refused
+unfoldable pub makes : List Rack → ℕ → Held → Call → List Pair
+makes racks b h call = pick (done (called racks b h call .answer .number)) (asks racks h call) []
+
+-- the table and the cards after all calls
+unfoldable pub after : List Rack → ℕ → List Call → Held → Held
+after racks b [] h = h
+after racks b (call ∷ calls) h = after racks b calls (called racks b h call .held)
+
+-- the moves that all calls make
+unfoldable pub made : List Rack → ℕ → List Call → Held → List Pair
+made racks b [] h = []
+made racks b (call ∷ calls) h = makes racks b h call ++ made racks b calls (called racks b h call .held)
+
+-- the moves counts that all calls give, added up
+unfoldable pub counted : List Rack → ℕ → List Call → Held → ℕ
+counted racks b [] h = 0
+counted racks b (call ∷ calls) h = called racks b h call .answer .tally .moves + counted racks b calls (called racks b h call .held)
