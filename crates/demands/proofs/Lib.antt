@@ -2,3 +2,8 @@ pub mod Acceptance
 pub mod Calls
 pub mod Points
 pub mod Demand3
+pub mod Figure1
+pub mod Section2
+pub mod Phases
+pub mod Homes
+pub mod Demand2

@@ -1,0 +1,49 @@
+-- Demand 2, proved. Assumes nothing.
+use mathlib.Core.Path.{_≡_, ap, sym, subst, _∙_}
+use mathlib.Core.List.{List}
+use Prim.Native.Nat.{ℕ, _≤_}
+use lib.ListN.{length, take}
+use lib.Seq.{take-length}
+use Rattle.counting.specs.Lists.{Pair, join}
+use Rattle.racks.specs.Racks.{Rack, ofCaps, slots}
+use Rattle.racks.specs.Table.{aways}
+use Rattle.racks.proofs.LegalTable.{spared-caps}
+use Rattle.moves.specs.Moves.{Held, carried}
+use Rattle.moves.specs.Phases.{phases}
+use Rattle.copies.specs.Copies.{copyList}
+use Rattle.runs.specs.Run.{gathered}
+use Rattle.demands.specs.Accepted.{Accepted}
+use Rattle.demands.specs.Demand2.{Shuffle, Demand2}
+use Rattle.demands.proofs.Acceptance.{accepted-small}
+use Rattle.demands.proofs.Calls.{Start}
+use Rattle.demands.proofs.Phases.{plan-phase, phase-is, phase-away}
+use Rattle.demands.proofs.Homes.{shuffle-done, start-gathered, gathered-none, ran-number, run-home, ran-phases, ran-moves, ran-copies, ran-shuffled, budgeted-gathered}
+
+-- the table and the cards after all phases
+after-all : (racks : List Rack) (b : ℕ) (h : Held) → carried b (join (take (length (phases racks (h .places))) (phases racks (h .places)))) h ≡ gathered racks b h
+unfolding gathered
+after-all racks b h = ap (λ (ps : List (List Pair)). carried b (join ps) h) (take-length (phases racks (h .places)))
+
+from-start : (caps : List ℕ) (b : ℕ) (h : Held) → Start (ofCaps caps) b h → slots (ofCaps caps) ≤ 4096 → Demand2 caps b h
+from-start caps b h s small =
+    let racks : List Rack = ofCaps caps in
+    let last = after-all racks b h in
+    record {
+      plan-now = plan-phase s;
+      shuffle-now = λ z. shuffle-done s small z;
+      phase = λ n l. phase-is s n l;
+      goes-on = λ n l. phase-away s n l;
+      over = ap (λ (x : Held). aways racks (x .places)) last ∙ gathered-none s small;
+      shuffle = subst (Shuffle racks b) (sym last) (shuffle-done (start-gathered s small) small (gathered-none s small));
+      then-shuffle = ran-shuffled s small _ last;
+      done = ran-number s small;
+      home = run-home s small;
+      phase-count = ran-phases s small;
+      move-count = ran-moves s small;
+      copy-count = ran-copies s small ∙ ap (λ (x : Held). length (copyList (x .places))) (sym last);
+      by-budget = λ k l. ran-shuffled s small _ (budgeted-gathered s small k l);
+    }
+
+-- **Demand 2.** Every accepted job
+pub demand2 : (caps : List ℕ) (b : ℕ) (h : Held) → Accepted caps b h → Demand2 caps b h
+demand2 caps b h z = from-start caps b h (record { spared = spared-caps caps; fits = z }) (accepted-small caps b (h .places) (h .cards) z)

@@ -1,0 +1,101 @@
+-- The phases of a run, one by one: each carries the plan of the table that it finds, until nothing is away. Assumes nothing.
+use mathlib.Core.Path.{_≡_, refl, ap, sym, subst, _∙_}
+use mathlib.Core.Bool.{true}
+use mathlib.Core.List.{List, [], _∷_, _++_}
+use Prim.Native.Nat.{ℕ, zero, suc, _<_}
+use native.Mathlib.Omega.{arith}
+use lib.ListN.{length, getD, take, drop, take-append-drop}
+use Rattle.counting.specs.Lists.{Pair, join}
+use Rattle.counting.proofs.Count.{count-some}
+use Rattle.counting.proofs.Lists.{join-append}
+use Rattle.counting.proofs.Every.{All, all-map, all-both, Pairwise}
+use Rattle.counting.proofs.Every.All.{more, none}
+use Rattle.counting.proofs.Every.Pairwise.{end, link}
+use Rattle.racks.specs.Racks.{Rack, slots}
+use Rattle.racks.specs.Table.{away, aways}
+use Rattle.racks.specs.Numbers.{someAway}
+use Rattle.phases.specs.Plan.{plan}
+use Rattle.phases.proofs.Allowed.{Allowed, Apart}
+use Rattle.phases.proofs.Plans.{plan-allowed, plan-apart}
+use Rattle.phases.proofs.Possible.{plan-some}
+use Rattle.moves.specs.Moves.{Held, carriedPlaces, carried, moved}
+use Rattle.moves.proofs.Pairs.{Disjoint, free-disjoint}
+use Rattle.moves.proofs.Moved.{allowed-free}
+use Rattle.moves.specs.Phases.{phases}
+use Rattle.moves.proofs.Carry.{InTurn, places-append}
+use Rattle.moves.proofs.Carry.InTurn.{stop, next}
+use Rattle.moves.proofs.Phases.{Run, phases-run, phases-in-turn, aways-some}
+use Rattle.moves.proofs.Phases.Run.{over, phase}
+use Rattle.moves.proofs.FirstFit.{first-fit}
+use Rattle.moves.proofs.Order.{any-order}
+use Rattle.demands.specs.Demand2.{Phase}
+use Rattle.demands.proofs.Calls.{Start, start-legal, start-long, start-carried}
+use Rattle.demands.proofs.Points.{allowed-number}
+use Rattle.demands.proofs.Figure1.{plan-figure1, plan-by-slot}
+
+-- allowed pairs that are apart share no end
+disjoint : {racks : List Rack} {places : List ℕ} {ms : List Pair} → Pairwise Apart ms → All (Allowed racks places) ms → Pairwise Disjoint ms
+disjoint end none = end
+disjoint (link d r) (more a rest) = link (all-map (λ n h. free-disjoint (allowed-free a) (allowed-free (h .1)) (h .0)) (all-both d rest)) (disjoint r rest)
+
+-- a run: phase n begins with a card away, and carries the plan of the table that it finds
+pub run-plan : {racks : List Rack} {places : List ℕ} {plans : List (List Pair)} → Run racks places plans → (n : ℕ) → n < length plans
+    → getD plans n [] ≡ plan racks (carriedPlaces (join (take n plans)) places)
+unfolding join carriedPlaces
+run-plan (over e) n l = absurd (omega arith)
+run-plan (phase e p r) zero l = p
+run-plan (phase {places} {ms} {rest} e p r) (suc n) l = run-plan r n (omega arith) ∙ ap (plan _) (sym (places-append ms (join (take n rest)) places))
+
+pub run-away : {racks : List Rack} {places : List ℕ} {plans : List (List Pair)} → Run racks places plans → (n : ℕ) → n < length plans
+    → someAway racks (carriedPlaces (join (take n plans)) places) ≡ true
+unfolding join carriedPlaces
+run-away (over e) n l = absurd (omega arith)
+run-away (phase e p r) zero l = e
+run-away (phase {places} {ms} {rest} e p r) (suc n) l = rw (places-append ms (join (take n rest)) places) (run-away r n (omega arith))
+
+-- the first moves of a list in turn
+in-turn-front : {racks : List Rack} {places : List ℕ} (ms ns : List Pair) → InTurn racks places (ms ++ ns) → InTurn racks places ms
+in-turn-front [] ns t = stop
+in-turn-front (m ∷ ms) ns (next a t) = next a (in-turn-front ms ns t)
+
+-- lists joined, the first n of them and those behind
+join-split : {A : Type 0} (n : ℕ) (l : List (List A)) → join (take n l) ++ join (drop n l) ≡ join l
+join-split n l = sym (join-append (take n l) (drop n l)) ∙ ap join (take-append-drop n l)
+
+module _ {racks : List Rack} {b : ℕ} {h : Held} (s : Start racks b h) where
+  -- the plan of a table, asked for or carried
+  pub plan-phase : Phase racks b h (plan racks (h .places))
+  unfolding moved aways
+  plan-phase =
+      record {
+        planned = refl;
+        first-fit = plan-figure1 racks (h .places);
+        by-slot = plan-by-slot racks (h .places);
+        accepted = all-map (λ m a. allowed-number s m a) (plan-allowed racks (h .places));
+        disjoint = disjoint (plan-apart racks (h .places)) (plan-allowed racks (h .places));
+        some = λ k. let (g, l, e) = count-some (slots racks) (away racks (h .places)) k in plan-some racks (h .places) (start-legal s) (s .spared) g l e;
+        any-order = λ ms p.
+            sym (any-order (record { places-long = start-legal s .long; cards-long = start-long s }) (plan-apart racks (h .places)) (plan-allowed racks (h .places)) p);
+      }
+
+  run : Run racks (h .places) (phases racks (h .places))
+  run = phases-run (first-fit (s .spared)) (start-legal s)
+
+  -- a phase begins with an accepted table
+  pub phase-start : (n : ℕ) → Start racks b (carried b (join (take n (phases racks (h .places)))) h)
+  phase-start n =
+      let all : List (List Pair) = phases racks (h .places) in
+      start-carried s
+      (in-turn-front (join (take n all)) (join (drop n all))
+      (subst (InTurn racks (h .places)) (sym (join-split n all)) (phases-in-turn (first-fit (s .spared)) (start-legal s))))
+
+  -- with a card away
+  pub phase-away : (n : ℕ) → n < length (phases racks (h .places)) → 0 < aways racks (carriedPlaces (join (take n (phases racks (h .places)))) (h .places))
+  phase-away n l = aways-some racks _ (run-away run n l)
+
+module _ {racks : List Rack} {b : ℕ} {h : Held} (s : Start racks b h) where
+  -- its pairs are the plan
+  pub phase-is : (n : ℕ) → n < length (phases racks (h .places))
+      → Phase racks b (carried b (join (take n (phases racks (h .places)))) h) (getD (phases racks (h .places)) n [])
+  phase-is n l =
+      subst (Phase racks b (carried b (join (take n (phases racks (h .places)))) h)) (sym (run-plan (run s) n l)) (plan-phase (phase-start s n))

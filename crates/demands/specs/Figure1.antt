@@ -1,0 +1,41 @@
+-- Figure 1 of document 001: the loop of computeMoves in its own words, and the slots that the scope gives its numbers. Assumes nothing: these are definitions.
+use mathlib.Core.List.{List}
+use Prim.Native.Nat.{ℕ, zero, suc, _-_, min}
+use lib.ListN.{length, take}
+use Rattle.counting.specs.Count.{select}
+use Rattle.counting.specs.Lists.{Pair, table, join, pairUp}
+use Rattle.racks.specs.Racks.{Rack, slots}
+use Rattle.racks.specs.Table.{awayTo, bound, owes}
+use Rattle.phases.specs.Plan.{openSlots, room}
+
+-- r before turn i of the loop, on a process with `free` spaces and in = `due`: line 10, and line 13 after each turn
+unfoldable pub r : ℕ → (ℕ → ℕ) → ℕ → ℕ
+r free due zero = free
+r free due (suc i) = let now = r free due i in now - min now (due i)
+
+-- line 12: recv[i] ← min{r, in[i]}
+unfoldable pub recv : ℕ → (ℕ → ℕ) → ℕ → ℕ
+recv free due i = min (r free due i) (due i)
+
+-- in[i] on rack p
+unfoldable pub dueTo : List Rack → List ℕ → ℕ → ℕ → ℕ
+dueTo racks places p i = owes racks places i p
+
+-- of the cards in rack i bound for rack p, the recv[i] in the lowest slots; r starts from p's free slots
+unfoldable pub received : List Rack → List ℕ → ℕ → ℕ → List ℕ
+received racks places p i = take (recv (room racks places p) (dueTo racks places p) i) (select (slots racks) (bound racks places i p))
+
+-- what rack p receives, from rack 0 to rack N - 1, into its free slots from the lowest up
+unfoldable pub figure1For : List Rack → List ℕ → ℕ → List Pair
+figure1For racks places p = pairUp (join (table (length racks) (received racks places p))) (openSlots racks places p)
+
+-- and all racks so
+unfoldable pub figure1 : List Rack → List ℕ → List Pair
+figure1 racks places = join (table (length racks) (figure1For racks places))
+
+-- the same by slots alone: the cards away to p, ascending, with p's free slots, ascending, as far as both go
+unfoldable pub bySlotFor : List Rack → List ℕ → ℕ → List Pair
+bySlotFor racks places p = pairUp (select (slots racks) (awayTo racks places p)) (openSlots racks places p)
+
+unfoldable pub bySlot : List Rack → List ℕ → List Pair
+bySlot racks places = join (table (length racks) (bySlotFor racks places))
