@@ -17,16 +17,15 @@ use Rattle.demands.specs.Demand2.{Shuffle, Demand2}
 use Rattle.demands.proofs.Acceptance.{accepted-small}
 use Rattle.demands.proofs.Calls.{Start}
 use Rattle.demands.proofs.Phases.{plan-phase, phase-is, phase-away}
-use Rattle.demands.proofs.Homes.{shuffle-done, start-gathered, gathered-none, ran-number, run-home, ran-phases, ran-moves, ran-copies, ran-shuffled, budgeted-gathered}
+use Rattle.demands.proofs.Homes.{shuffle-done, start-gathered, gathered-none, ran-number, run-home, ran-phases, ran-moves, ran-copies, ran-shuffled, budgeted-first, budgeted-gathered}
 
 -- the table and the cards after all phases
 after-all : (racks : List Rack) (b : ℕ) (h : Held) → carried b (join (take (length (phases racks (h .places))) (phases racks (h .places)))) h ≡ gathered racks b h
 unfolding gathered
 after-all racks b h = ap (λ (ps : List (List Pair)). carried b (join ps) h) (take-length (phases racks (h .places)))
 
-from-start : (caps : List ℕ) (b : ℕ) (h : Held) → Start (ofCaps caps) b h → slots (ofCaps caps) ≤ 4096 → Demand2 caps b h
-from-start caps b h s small =
-    let racks : List Rack = ofCaps caps in
+from-start : {racks : List Rack} {b : ℕ} {h : Held} → Start racks b h → slots racks ≤ 4096 → Demand2 racks b h
+from-start {racks} {b} {h} s small =
     let last = after-all racks b h in
     record {
       plan-now = plan-phase s;
@@ -41,9 +40,10 @@ from-start caps b h s small =
       phase-count = ran-phases s small;
       move-count = ran-moves s small;
       copy-count = ran-copies s small ∙ ap (λ (x : Held). length (copyList (x .places))) (sym last);
+      first-k = λ k. budgeted-first s small k;
       by-budget = λ k l. ran-shuffled s small _ (budgeted-gathered s small k l);
     }
 
 -- **Demand 2.** Every accepted job
-pub demand2 : (caps : List ℕ) (b : ℕ) (h : Held) → Accepted caps b h → Demand2 caps b h
-demand2 caps b h z = from-start caps b h (record { spared = spared-caps caps; fits = z }) (accepted-small caps b (h .places) (h .cards) z)
+pub demand2 : (caps : List ℕ) (b : ℕ) (h : Held) → Accepted caps b h → Demand2 (ofCaps caps) b h
+demand2 caps b h z = from-start (record { spared = spared-caps caps; fits = z }) (accepted-small caps b (h .places) (h .cards) z)

@@ -69,7 +69,7 @@ module _ (racks : List Rack) (places : List ℕ) where
         (fun-ext (λ j. sym (length-select (slots racks) (bound racks places j p))))
 
     -- what figure 1 has rack p receive are the arrivals
-    received-are : join (table (length racks) (received racks places p)) ≡ arrivals racks places p
+    pub received-are : join (table (length racks) (received racks places p)) ≡ arrivals racks places p
     received-are =
         ap join (table-cong (length racks) (received racks places p) _ (λ i _. same i))
         ∙ loop-takes (room racks places p) (cardsFor racks places p) (length racks)

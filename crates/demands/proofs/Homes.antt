@@ -1,10 +1,11 @@
 -- The shuffle and the whole run bring every card home. Assumes nothing.
 use mathlib.Core.Path.{_≡_, ap, sym, _∙_}
+use mathlib.Core.Bool.{false}
 use mathlib.Core.Logic.{_≢_}
 use mathlib.Core.List.{List, []}
-use Prim.Native.Nat.{ℕ, _*_, _≤_, _<_}
+use Prim.Native.Nat.{ℕ, _*_, _≤_, _<_, min}
 use native.Mathlib.Omega.{arith}
-use lib.ListN.{length}
+use lib.ListN.{length, take}
 use lib.Seq.{take-all}
 use borrow.Author.Tests.{ne-eqb}
 use Rattle.counting.specs.Lists.{Pair, join}
@@ -16,6 +17,7 @@ use Rattle.racks.specs.Limits.{FREE}
 use Rattle.racks.specs.Racks.{Rack, slots}
 use Rattle.racks.specs.Table.{dest, free, aways}
 use Rattle.racks.specs.Numbers.{someAway}
+use Rattle.racks.specs.Answers.{answer, movesOf}
 use Rattle.racks.proofs.LegalTable.{legal-dest}
 use Rattle.moves.specs.Moves.{Held, carried}
 use Rattle.moves.specs.Phases.{phases, budget, budgeted}
@@ -24,6 +26,7 @@ use Rattle.moves.proofs.FirstFit.{first-fit}
 use Rattle.moves.proofs.Outcomes.{cards-marked}
 use Rattle.copies.specs.Copies.{copyList}
 use Rattle.copies.proofs.Chains.{chained}
+use Rattle.copies.proofs.OneRack.{one-rack}
 use Rattle.shuffle.specs.Shuffle.{brought, lastEntry, lastCard, settledHeld, shuffleChecks, shuffled}
 use Rattle.shuffle.proofs.Bytes.{length-brought}
 use Rattle.shuffle.proofs.Settled.{is-named, not-named, length-slots, length-last, settled-card, settled-blank, settled-self, settled-free}
@@ -66,12 +69,13 @@ module _ {racks : List Rack} {b : ℕ} {h : Held} (s : Start racks b h) (small :
 
   -- where nothing is away, nothing is refused
   module _ (z : aways racks (h .places) ≡ 0) where
+    none-away : someAway racks (h .places) ≡ false
+    none-away = off (λ e. omega (arith, aways-some racks (h .places) e))
+
     shuffle-number : first (shuffleChecks racks b h) ≡ 0
     unfolding shuffleChecks
     shuffle-number =
-        first-past _ (first-clear (cards-marked racks b (h .places) (h .cards)) (s .fits))
-        ∙ first-later (someAway racks (h .places)) 12 [] (off (λ e. omega (arith, aways-some racks (h .places) e)))
-        ∙ first-none
+        first-past _ (first-clear (cards-marked racks b (h .places) (h .cards)) (s .fits)) ∙ first-later (someAway racks (h .places)) 12 [] none-away ∙ first-none
 
     pub shuffled-held : shuffled racks b h .held ≡ settledHeld racks b h
     unfolding shuffled
@@ -83,6 +87,7 @@ module _ {racks : List Rack} {b : ℕ} {h : Held} (s : Start racks b h) (small :
         record {
           done = shuffle-number;
           list = copy-list (chained (start-legal s) small);
+          inside = one-rack (start-legal s) small none-away;
           home = rw shuffle-number settled-home;
           copies = rw shuffle-number;
         }
@@ -134,6 +139,12 @@ module _ {racks : List Rack} {b : ℕ} {h : Held} (s : Start racks b h) (small :
   -- it ends with the shuffle of what its phases, or budgeted moves with budget enough, leave
   pub ran-shuffled : (x : Held) → x ≡ gathered racks b h → ran racks b h .held ≡ shuffled racks b x .held
   ran-shuffled x e = rw e (ran-held ∙ sym (shuffled-held start-gathered small gathered-none))
+
+  -- budgeted moves make the first k of all pairs
+  pub budgeted-first : (k : ℕ)
+      → budgeted racks b h k ≡ record { answer = answer 0 (movesOf (min k (aways racks (h .places)))); held = carried b (take k (join (phases racks (h .places)))) h }
+  unfolding budgeted budget
+  budgeted-first k = rw (s .fits)
 
   pub budgeted-gathered : (k : ℕ) → aways racks (h .places) ≤ k → budgeted racks b h k .held ≡ gathered racks b h
   unfolding budgeted gathered budget

@@ -3,6 +3,7 @@ pub mod Calls
 pub mod Points
 pub mod Demand3
 pub mod Figure1
+pub mod Sends
 pub mod Section2
 pub mod Phases
 pub mod Homes

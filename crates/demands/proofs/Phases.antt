@@ -22,7 +22,7 @@ use Rattle.moves.specs.Moves.{Held, carriedPlaces, carried, moved}
 use Rattle.moves.proofs.Pairs.{Disjoint, free-disjoint}
 use Rattle.moves.proofs.Moved.{allowed-free}
 use Rattle.moves.specs.Phases.{phases}
-use Rattle.moves.proofs.Carry.{InTurn, places-append}
+use Rattle.moves.proofs.Carry.{InTurn, pairs-in-turn, places-append, owes-carried}
 use Rattle.moves.proofs.Carry.InTurn.{stop, next}
 use Rattle.moves.proofs.Phases.{Run, phases-run, phases-in-turn, aways-some}
 use Rattle.moves.proofs.Phases.Run.{over, phase}
@@ -32,13 +32,14 @@ use Rattle.demands.specs.Demand2.{Phase}
 use Rattle.demands.proofs.Calls.{Start, start-legal, start-long, start-carried}
 use Rattle.demands.proofs.Points.{allowed-number}
 use Rattle.demands.proofs.Figure1.{plan-figure1, plan-by-slot}
+use Rattle.demands.proofs.Sends.{plan-sends}
 
 -- allowed pairs that are apart share no end
 disjoint : {racks : List Rack} {places : List ℕ} {ms : List Pair} → Pairwise Apart ms → All (Allowed racks places) ms → Pairwise Disjoint ms
 disjoint end none = end
 disjoint (link d r) (more a rest) = link (all-map (λ n h. free-disjoint (allowed-free a) (allowed-free (h .1)) (h .0)) (all-both d rest)) (disjoint r rest)
 
--- a run: phase n begins with a card away, and carries the plan of the table that it finds
+-- phase n of a run carries the plan of the table that it finds
 pub run-plan : {racks : List Rack} {places : List ℕ} {plans : List (List Pair)} → Run racks places plans → (n : ℕ) → n < length plans
     → getD plans n [] ≡ plan racks (carriedPlaces (join (take n plans)) places)
 unfolding join carriedPlaces
@@ -46,6 +47,7 @@ run-plan (over e) n l = absurd (omega arith)
 run-plan (phase e p r) zero l = p
 run-plan (phase {places} {ms} {rest} e p r) (suc n) l = run-plan r n (omega arith) ∙ ap (plan _) (sym (places-append ms (join (take n rest)) places))
 
+-- and begins with a card away
 pub run-away : {racks : List Rack} {places : List ℕ} {plans : List (List Pair)} → Run racks places plans → (n : ℕ) → n < length plans
     → someAway racks (carriedPlaces (join (take n plans)) places) ≡ true
 unfolding join carriedPlaces
@@ -63,6 +65,9 @@ join-split : {A : Type 0} (n : ℕ) (l : List (List A)) → join (take n l) ++ j
 join-split n l = sym (join-append (take n l) (drop n l)) ∙ ap join (take-append-drop n l)
 
 module _ {racks : List Rack} {b : ℕ} {h : Held} (s : Start racks b h) where
+  in-turn : InTurn racks (h .places) (plan racks (h .places))
+  in-turn = pairs-in-turn (start-legal s) (plan-apart racks (h .places)) (plan-allowed racks (h .places))
+
   -- the plan of a table, asked for or carried
   pub plan-phase : Phase racks b h (plan racks (h .places))
   unfolding moved aways
@@ -71,6 +76,8 @@ module _ {racks : List Rack} {b : ℕ} {h : Held} (s : Start racks b h) where
         planned = refl;
         first-fit = plan-figure1 racks (h .places);
         by-slot = plan-by-slot racks (h .places);
+        sends = plan-sends racks (h .places);
+        lowers = λ i p li lp. omega (arith, owes-carried (start-legal s) in-turn i p, plan-sends racks (h .places) i p li lp);
         accepted = all-map (λ m a. allowed-number s m a) (plan-allowed racks (h .places));
         disjoint = disjoint (plan-apart racks (h .places)) (plan-allowed racks (h .places));
         some = λ k. let (g, l, e) = count-some (slots racks) (away racks (h .places)) k in plan-some racks (h .places) (start-legal s) (s .spared) g l e;

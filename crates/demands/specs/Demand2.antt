@@ -3,22 +3,24 @@
 use mathlib.Core.Path.{_≡_}
 use mathlib.Core.Logic.{_≢_}
 use mathlib.Core.List.{List, [], List·Permᴰ}
-use Prim.Native.Nat.{ℕ, _*_, _≤_, _<_}
+use Prim.Native.Nat.{ℕ, _-_, _*_, _≤_, _<_, min}
 use lib.ListN.{length, getD, take}
-use Rattle.counting.specs.Lists.{Pair, join}
+use Rattle.counting.specs.Lists.{Pair, join, matching}
 use Rattle.counting.proofs.Every.{All, Pairwise}
 use Rattle.racks.specs.Limits.{FREE}
-use Rattle.racks.specs.Racks.{Rack, ofCaps, slots}
-use Rattle.racks.specs.Table.{dest, aways}
-use Rattle.phases.specs.Plan.{plan}
+use Rattle.racks.specs.Racks.{Rack, slots, rackOf}
+use Rattle.racks.specs.Table.{dest, aways, owes}
+use Rattle.racks.specs.Answers.{answer, movesOf}
+use Rattle.phases.specs.Plan.{room, plan}
 use Rattle.moves.specs.Blocks.{block, blank}
-use Rattle.moves.specs.Moves.{Held, carried, moved}
+use Rattle.moves.specs.Moves.{Held, carried, between, moved}
 use Rattle.moves.specs.Phases.{phases, budgeted}
 use Rattle.moves.proofs.Pairs.{Disjoint}
-use Rattle.copies.specs.Copies.{copyList}
+use Rattle.copies.specs.Copies.{factor, copyList}
+use Rattle.copies.proofs.Members.{In}
 use Rattle.shuffle.specs.Shuffle.{shuffled}
 use Rattle.runs.specs.Run.{ran}
-use Rattle.demands.specs.Figure1.{figure1, bySlot}
+use Rattle.demands.specs.Figure1.{recv, dueTo, figure1, bySlot}
 use Rattle.demands.specs.Section2.{CopyList}
 
 -- the single move accepts m
@@ -31,6 +33,12 @@ pub record Phase (racks : List Rack) (b : ℕ) (h : Held) (pairs : List Pair) : 
   pub planned : pairs ≡ plan racks (h .places)
   pub first-fit : pairs ≡ figure1 racks (h .places)
   pub by-slot : pairs ≡ bySlot racks (h .places)
+  -- from rack i to rack p as many as figure 1's recv[i] on p
+  pub sends : (i p : ℕ) → i < length racks → p < length racks
+      → matching (between racks i p) pairs ≡ recv (room racks (h .places) p) (dueTo racks (h .places) p) i
+  -- and what i owes p falls by that: line 23, in[i] ← in[i] - recv[i]
+  pub lowers : (i p : ℕ) → i < length racks → p < length racks
+      → owes racks (carried b pairs h .places) i p ≡ owes racks (h .places) i p - recv (room racks (h .places) p) (dueTo racks (h .places) p) i
   -- each is a single move that is accepted, and no two share an end
   pub accepted : All (Accepts racks b h) pairs
   pub disjoint : Pairwise Disjoint pairs
@@ -52,18 +60,16 @@ pub record Home (racks : List Rack) (b : ℕ) (h end : Held) : Type 0 where
 pub record Shuffle (racks : List Rack) (b : ℕ) (h : Held) : Type 0 where
   pub done : shuffled racks b h .answer .number ≡ 0
   pub list : CopyList (h .places)
+  -- every factor is inside one rack
+  pub inside : (k x : ℕ) → k < slots racks → In x (factor (h .places) k) → rackOf racks x ≡ rackOf racks k
   pub home : Home racks b h (shuffled racks b h .held)
   pub copies : shuffled racks b h .answer .tally .copies ≡ length (copyList (h .places))
 
--- the job of capacities, B, a table and its cards
-module _ (caps : List ℕ) (b : ℕ) (h : Held) where
-  -- its racks
-  abbrev pub racksOf : List Rack
-  racksOf = ofCaps caps
-
+-- a job: racks, B, a table and its cards
+module _ (racks : List Rack) (b : ℕ) (h : Held) where
   -- the plans of its phases
   abbrev pub plans : List (List Pair)
-  plans = phases racksOf (h .places)
+  plans = phases racks (h .places)
 
   -- the table and the cards when phase n begins, counted from 0; after the last phase, when the shuffle does
   abbrev pub startOf : ℕ → Held
@@ -71,20 +77,21 @@ module _ (caps : List ℕ) (b : ℕ) (h : Held) where
 
   pub record Demand2 : Type 0 where
     -- the plan that may be asked for now, and the shuffle where nothing is away
-    pub plan-now : Phase racksOf b h (plan racksOf (h .places))
-    pub shuffle-now : aways racksOf (h .places) ≡ 0 → Shuffle racksOf b h
+    pub plan-now : Phase racks b h (plan racks (h .places))
+    pub shuffle-now : aways racks (h .places) ≡ 0 → Shuffle racks b h
     -- a whole run: every phase begins with a card away and carries the plan of the table that it finds, until none is away
-    pub phase : (n : ℕ) → n < length plans → Phase racksOf b (startOf n) (getD plans n [])
-    pub goes-on : (n : ℕ) → n < length plans → 0 < aways racksOf (startOf n .places)
-    pub over : aways racksOf (startOf (length plans) .places) ≡ 0
+    pub phase : (n : ℕ) → n < length plans → Phase racks b (startOf n) (getD plans n [])
+    pub goes-on : (n : ℕ) → n < length plans → 0 < aways racks (startOf n .places)
+    pub over : aways racks (startOf (length plans) .places) ≡ 0
     -- then the shuffle
-    pub shuffle : Shuffle racksOf b (startOf (length plans))
-    pub then-shuffle : ran racksOf b h .held ≡ shuffled racksOf b (startOf (length plans)) .held
+    pub shuffle : Shuffle racks b (startOf (length plans))
+    pub then-shuffle : ran racks b h .held ≡ shuffled racks b (startOf (length plans)) .held
     -- so every card ends in its slot, and the counts are those of the plans, of the cards that were away, of the copies
-    pub done : ran racksOf b h .answer .number ≡ 0
-    pub home : Home racksOf b h (ran racksOf b h .held)
-    pub phase-count : ran racksOf b h .answer .tally .phases ≡ length plans
-    pub move-count : ran racksOf b h .answer .tally .moves ≡ aways racksOf (h .places)
-    pub copy-count : ran racksOf b h .answer .tally .copies ≡ length (copyList (startOf (length plans) .places))
-    -- it is also budgeted moves with a budget of at least the cards away, and then the shuffle
-    pub by-budget : (k : ℕ) → aways racksOf (h .places) ≤ k → ran racksOf b h .held ≡ shuffled racksOf b (budgeted racksOf b h k .held) .held
+    pub done : ran racks b h .answer .number ≡ 0
+    pub home : Home racks b h (ran racks b h .held)
+    pub phase-count : ran racks b h .answer .tally .phases ≡ length plans
+    pub move-count : ran racks b h .answer .tally .moves ≡ aways racks (h .places)
+    pub copy-count : ran racks b h .answer .tally .copies ≡ length (copyList (startOf (length plans) .places))
+    -- budgeted moves make the first k of all these pairs; with a budget of at least the cards away, and then the shuffle, they are the whole run
+    pub first-k : (k : ℕ) → budgeted racks b h k ≡ record { answer = answer 0 (movesOf (min k (aways racks (h .places)))); held = carried b (take k (join plans)) h }
+    pub by-budget : (k : ℕ) → aways racks (h .places) ≤ k → ran racks b h .held ≡ shuffled racks b (budgeted racks b h k .held) .held

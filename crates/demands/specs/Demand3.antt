@@ -70,9 +70,9 @@ module _ (racks : List Rack) (b : ℕ) (h : Held) (calls : List Call) where
     pub falls : (n : ℕ) → n ≤ moveCount → n + aways racks (point n .places) ≡ aways racks (h .places)
     -- the counts that the calls give add up to the moves made
     pub counts : counted racks b calls h ≡ moveCount
-    -- a further call of budgeted moves makes the smaller of k and the cards away; a single move 1, and 0 where it is refused
+    -- a further call, so any call, the list being any: budgeted moves make the smaller of k and the cards away, a single move 1, and 0 where it is refused
     pub budget-makes : (k : ℕ) → length (makes racks b end (atMost k)) ≡ min k (aways racks (end .places))
     pub single-makes : (from to : ℕ) → length (makes racks b end (single from to)) ≡ bit (done (called racks b end (single from to) .answer .number))
-    -- and one that is refused makes no move and changes nothing
+    -- one that is refused makes no move and changes nothing
     pub refused-makes : (call : Call) → called racks b end call .answer .number ≢ 0 → makes racks b end call ≡ []
     pub refused-keeps : (call : Call) → called racks b end call .answer .number ≢ 0 → called racks b end call .held ≡ end
