@@ -17,22 +17,22 @@ mod plain;
 
 use jobs::{Job, Random, Size, FREE};
 use mover::faulty::{Faulty, FAULTS};
-use mover::{Answer, Engine, FileAnswer, ListingAnswer, Mover, Plain, SlotAnswer};
+use mover::{Answer, Engine, FileAnswer, ListingAnswer, Mover, Plain, Proved, SlotAnswer};
 use std::fmt::Debug;
 use std::time::Instant;
 
 /// The two that are compared.
 fn movers() -> (impl Mover, impl Mover) {
-    (Plain, Faulty::from_environment(Plain))
+    (Plain, Faulty::from_environment(Proved))
 }
 
 const DEFAULT_SEED: u64 = 20_010_205;
 const DEFAULT_JOBS: u64 = 200_000;
 
 #[test]
-fn the_two_agree() {
+fn the_proved_library_agrees_with_plain() {
     let (a, b) = movers();
-    compare_all("the two", &a, &b);
+    compare_all("plain and proved", &a, &b);
 }
 
 #[test]

@@ -7,10 +7,15 @@ mod engine;
 mod mover;
 mod plain;
 
-use mover::{Answer, Engine, Mover, Plain};
+use mover::{Answer, Engine, Mover, Plain, Proved};
 
 const F: u16 = 65_535;
 const H: u16 = 65_534;
+
+#[test]
+fn the_proved_library_gives_the_paper_cards() {
+    paper_cards(&Proved);
+}
 
 #[test]
 fn plain_gives_the_paper_cards() {

@@ -10,9 +10,15 @@ mod mover;
 mod plain;
 
 use json::Value;
-use mover::{Answer, Engine, FileAnswer, ListingAnswer, Mover, Plain, SlotAnswer};
+use mover::{Answer, Engine, FileAnswer, ListingAnswer, Mover, Plain, Proved, SlotAnswer};
 use std::fs;
 use std::path::PathBuf;
+
+#[test]
+fn the_proved_library_gives_the_vectors() {
+    run_calls(&Proved);
+    run_shelve(&Proved);
+}
 
 #[test]
 fn plain_gives_the_vectors() {

@@ -8,6 +8,7 @@ pub mod faulty;
 use crate::engine;
 use crate::plain;
 pub use crate::plain::{Answer, FileAnswer, ListingAnswer, SlotAnswer};
+use seineflute::raw;
 
 pub trait Mover {
     fn check_table(&self, caps: &[u16], places: &[u16]) -> Answer;
@@ -182,5 +183,6 @@ macro_rules! mover {
     };
 }
 
+mover!(Proved, raw);
 mover!(Plain, plain);
 mover!(Engine, engine);
