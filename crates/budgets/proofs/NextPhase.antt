@@ -11,7 +11,7 @@ use Rattle.tables.specs.Tables.{Filled}
 use Rattle.phases.specs.Plan.{plan, openSlots}
 use Rattle.phases.proofs.Plans.{plan-allowed, plan-apart}
 use Rattle.queues.specs.Queues.{Rows, rowsOf, Raised, pairsFor, opens, part}
-use Rattle.queues.specs.Ready.{Ready}
+use Rattle.queues.specs.Ready.{Roomy, Ready}
 use Rattle.queues.proofs.Ready.{ready-for}
 use Rattle.queues.proofs.OpenSlots.{opens-are, opens-none}
 use Rattle.queues.proofs.Pairing.{served-le}
@@ -20,7 +20,7 @@ use Rattle.moves.proofs.Carry.{InTurn, pairs-in-turn}
 use Rattle.moves.proofs.Waits.{waits-carried}
 use Rattle.budgets.specs.Engine.{lowered, noted}
 use Rattle.budgets.proofs.Marks.{Marks, marks-carried}
-use Rattle.budgets.proofs.Rooms.{Rooms, rooms-noted}
+use Rattle.budgets.proofs.Rooms.{rooms-noted}
 
 -- a part without its first k
 part-drop : (l : List ℕ) (low high k : ℕ) → part l (low + k) high ≡ drop k (part l low high)
@@ -45,10 +45,6 @@ module _ (racks : List Rack) (places : List ℕ) (rows : Rows) (l : Legal racks 
       all : (p : ℕ) → p < length racks → opens places (getD marks p 0) (base racks (suc p)) ≡ openSlots racks places p
       all p b = rw (← (r .ends-are p b)) (sym (h p b .same) ∙ r .open-slots p b)
 
-  -- the counts of free slots
-  pub ready-rooms : Rooms racks places (rows .rooms)
-  ready-rooms = record { counts = r .rooms-are; long = r .bounded .rooms-long }
-
   module _ (table : List ℕ) (filled : Filled racks table) (heads marks : List ℕ) (heads-long : length heads ≡ 64) (marks-long : length marks ≡ 64)
       (heads-are : (p : ℕ) → p < length racks → getD heads p 0 ≡ getD (rows .heads) p 0 + length (pairsFor rows places p))
       (marks-are : (p : ℕ) → p < length racks → Raised places (getD (rows .lows) p 0) (getD (rows .ends) p 0) (getD marks p 0)) where
@@ -58,8 +54,8 @@ module _ (racks : List Rack) (places : List ℕ) (rows : Rows) (l : Legal racks 
     marks-after : Marks racks (carriedPlaces (plan racks places) places) (lowered table (plan racks places) marks)
     marks-after = marks-carried racks table filled (r .bounded .few) l plan-in-turn (marks-up marks marks-long marks-are)
 
-    rooms-after : Rooms racks (carriedPlaces (plan racks places) places) (noted table (plan racks places) (rows .rooms))
-    rooms-after = rooms-noted table filled (r .bounded .few) (r .bounded .small) l plan-in-turn ready-rooms
+    rooms-after : Roomy racks (carriedPlaces (plan racks places) places) (noted table (plan racks places) (rows .rooms))
+    rooms-after = rooms-noted table filled (r .bounded .few) (r .bounded .small) l plan-in-turn (r .rooms-are)
 
     queued-after : (p : ℕ) → p < length racks → getD heads p 0 ≤ getD (rows .tails) p 0
     unfolding pairsFor
@@ -90,7 +86,7 @@ module _ (racks : List Rack) (places : List ℕ) (rows : Rows) (l : Legal racks 
               rw (heads-are p b, part-drop (rows .queue) (getD (rows .heads) p 0) (getD (rows .tails) p 0) (length (pairsFor rows places p)), r .waits p b, ready-for racks places rows r p b)
               (sym (waits-carried racks places l plan-in-turn p b));
           open-slots = λ p b. rw (r .ends-are p b) (opens-are racks _ p b _ (k .low p b) (k .high p b) (k .none-below p b));
-          rooms-are = rooms-after .counts;
+          rooms-are = rooms-after;
           from-base = k .low;
           ends-are = r .ends-are;
         }

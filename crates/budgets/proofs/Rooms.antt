@@ -20,6 +20,7 @@ use Rattle.tables.specs.Tables.{Filled}
 use Rattle.phases.specs.Plan.{room}
 use Rattle.phases.proofs.Allowed.{Allowed}
 use Rattle.queues.specs.Queued.{oneMore}
+use Rattle.queues.specs.Ready.{Roomy}
 use Rattle.moves.specs.Moves.{movedPlaces, carriedPlaces}
 use Rattle.moves.proofs.Moved.{legal-moved, allowed-free, room-moved}
 use Rattle.moves.proofs.Carry.{InTurn}
@@ -28,11 +29,6 @@ use Rattle.budgets.specs.Engine.{oneLess, note, noted, Notable}
 use Rattle.budgets.specs.Engine.Notable.{none, more}
 use Rattle.budgets.proofs.Noting.{length-note}
 
--- the list has how many free slots each rack has
-pub record Rooms (racks : List Rack) (places rooms : List ℕ) : Type 0 where
-  pub counts : (p : ℕ) → getD rooms p 0 ≡ room racks places p
-  pub long : length rooms ≡ 64
-
 -- no rack has more free slots than there are slots
 room-few : (racks : List Rack) (places : List ℕ) (p : ℕ) → room racks places p ≤ slots racks
 unfolding room
@@ -40,7 +36,7 @@ room-few racks places p = count-le (slots racks) (freeOn racks places p)
 
 module _ {racks : List Rack} (table : List ℕ) (filled : Filled racks table) (few : length racks ≤ 64) (small : slots racks ≤ 4096) where
   -- one move
-  module _ {places : List ℕ} {m : Pair} {rooms : List ℕ} (l : Legal racks places) (a : Allowed racks places m) (o : Rooms racks places rooms) where
+  module _ {places : List ℕ} {m : Pair} {rooms : List ℕ} (l : Legal racks places) (a : Allowed racks places m) (o : Roomy racks places rooms) where
     -- the racks of its ends, looked up
     from-is : getD table (m .0) 0 ≡ rackOf racks (m .0)
     from-is = filled (m .0) (a .from-lt)
@@ -89,7 +85,7 @@ module _ {racks : List Rack} (table : List ℕ) (filled : Filled racks table) (f
         omega (arith, room-moved l (allowed-free a) p, ap bit (eq-eqb p p refl), ap bit (ne-eqb (rackOf racks (m .0)) p apart))
 
     -- the counts with the move noted are those of the table after it
-    rooms-note : Rooms racks (movedPlaces m places) (note table m rooms)
+    rooms-note : Roomy racks (movedPlaces m places) (note table m rooms)
     rooms-note = record {
       counts = λ p. elim (ℕ-discrete p (rackOf racks (m .0))) [
         | yes e ↦ rw e (omega (arith, note-from, room-moved l (allowed-free a) (rackOf racks (m .0)), ap bit (eq-eqb (rackOf racks (m .0)) (rackOf racks (m .0)) refl), ap bit (ne-eqb (rackOf racks (m .1)) (rackOf racks (m .0)) (λ x. apart (sym x)))))
@@ -110,14 +106,14 @@ module _ {racks : List Rack} (table : List ℕ) (filled : Filled racks table) (f
         r
 
   -- counts of free slots, with moves noted, are those of the table after the moves
-  pub rooms-noted : {places : List ℕ} {ms : List Pair} {rooms : List ℕ} → Legal racks places → InTurn racks places ms → Rooms racks places rooms
-      → Rooms racks (carriedPlaces ms places) (noted table ms rooms)
+  pub rooms-noted : {places : List ℕ} {ms : List Pair} {rooms : List ℕ} → Legal racks places → InTurn racks places ms → Roomy racks places rooms
+      → Roomy racks (carriedPlaces ms places) (noted table ms rooms)
   unfolding carriedPlaces noted
   rooms-noted l stop o = o
   rooms-noted l (next a t) o = rooms-noted (legal-moved l (allowed-free a)) t (rooms-note l a o)
 
   -- and each move can be noted when its turn comes
-  pub rooms-notable : {places : List ℕ} {ms : List Pair} {rooms : List ℕ} → Legal racks places → InTurn racks places ms → Rooms racks places rooms
+  pub rooms-notable : {places : List ℕ} {ms : List Pair} {rooms : List ℕ} → Legal racks places → InTurn racks places ms → Roomy racks places rooms
       → Notable table ms rooms
   rooms-notable l stop o = none
   rooms-notable l (next a t) o = notable-first l a o (rooms-notable (legal-moved l (allowed-free a)) t (rooms-note l a o))

@@ -32,7 +32,7 @@ use Rattle.moves.proofs.Carry.{InTurn, in-turn-take, legal-carried, aways-carri
 use Rattle.moves.proofs.Phases.{aways-none, budget-none, budget-step}
 use Rattle.moves.proofs.FirstFit.{first-fit}
 use Rattle.budgets.specs.Engine.{Runnable, PhaseRun, Going, Made}
-use Rattle.budgets.proofs.NextPhase.{plan-in-turn, ready-rooms, ready-next}
+use Rattle.budgets.proofs.NextPhase.{plan-in-turn, ready-next}
 use Rattle.budgets.proofs.Rooms.{rooms-notable}
 
 -- moves and further moves
@@ -89,7 +89,7 @@ module _ (racks : List Rack) (n : ℕ) (table : List ℕ) (f : Fixed racks n tab
         sized = ap (λ (s : ℕ). s * b) (t .legal .long) ∙ sym (t .cards-long);
         slots = rw (all-is, t .legal .long) (all-map (λ m a. record { from-lt = a .from-lt; to-lt = a .to-lt }) (plan-allowed racks (h .places)));
         roomed = ready-roomed racks (h .places) rows (t .ready l) n (f .racks-are);
-        notable = rw all-is (rooms-notable table (f .filled) (f .few) (f .small) (t .legal) (plan-in-turn racks (h .places) rows (t .legal) (t .ready l)) (ready-rooms racks (h .places) rows (t .legal) (t .ready l)));
+        notable = rw all-is (rooms-notable table (f .filled) (f .few) (f .small) (t .legal) (plan-in-turn racks (h .places) rows (t .legal) (t .ready l)) (t .ready l .rooms-are));
         room = rw all-is (omega (arith, plan-few racks (h .places), f .small, t .room));
       }
 

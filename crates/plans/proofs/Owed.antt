@@ -13,15 +13,16 @@ use Rattle.counting.proofs.Tests.{by-test, off, both, and-off-l, and-off-r, not
 use Rattle.counting.proofs.Count.{count-none}
 use Rattle.racks.specs.Limits.{FREE}
 use Rattle.racks.specs.Racks.{Rack, slots, rackOf}
-use Rattle.racks.specs.Table.{dest, free, rackTo, onRack, away, bound, owes, freeOn}
+use Rattle.racks.specs.Table.{dest, free, rackTo, onRack, away, bound, owes}
 use Rattle.racks.proofs.Geometry.{rack-lt}
 use Rattle.racks.specs.Legal.{Legal}
 use Rattle.racks.proofs.LegalTable.{legal-dest}
-use Rattle.racks.proofs.Away.{away-held, to-away, to-rack, to-is, on-free, on-rack, on-is, bound-on, bound-off}
+use Rattle.racks.proofs.Away.{away-held, to-away, to-rack, to-is, bound-on, bound-off}
 use Rattle.tables.specs.Tables.{Filled}
-use Rattle.phases.specs.Plan.{room}
 use Rattle.queues.specs.Queued.{oneMore, roomsWith}
 use Rattle.queues.proofs.Counts.{zeros, one-count, one-few, one-long}
+use Rattle.queues.proofs.Queueing.{RoomsTo, rooms-none, rooms-more}
+use Rattle.queues.proofs.AllQueued.{rooms-all}
 use Rattle.plans.specs.Owed.{cell, Tallied, awayBy, owesWith, Counted, Countable}
 
 -- a slot whose entry is not 65,535 is not free
@@ -56,9 +57,7 @@ pub record CountedTo (racks : List Rack) (places : List ℕ) (g : ℕ) (owed roo
   pub owed-are : (i p : ℕ) → i < length racks → p < length racks → getD owed (cell i p) 0 ≡ count g (bound racks places i p)
   pub owed-few : (k : ℕ) → getD owed k 0 ≤ g
   pub owed-long : length owed ≡ 4096
-  pub rooms-are : (p : ℕ) → p < length racks → getD rooms p 0 ≡ count g (freeOn racks places p)
-  pub rooms-few : (k : ℕ) → getD rooms k 0 ≤ g
-  pub rooms-long : length rooms ≡ 64
+  pub rooms-are : RoomsTo racks places g rooms
 
 module _ (racks : List Rack) (places : List ℕ) where
   -- no slot is counted
@@ -68,18 +67,16 @@ module _ (racks : List Rack) (places : List ℕ) where
         owed-are = λ i p _ _. zeros 4096 (cell i p) ∙ sym (count-none (bound racks places i p));
         owed-few = λ k. omega (arith, zeros 4096 k);
         owed-long = length-replicate {A = ℕ} 4096 0;
-        rooms-are = λ p _. zeros 64 p ∙ sym (count-none (freeOn racks places p));
-        rooms-few = λ k. omega (arith, zeros 64 k);
-        rooms-long = length-replicate {A = ℕ} 64 0;
+        rooms-are = rooms-none racks places;
       }
 
   -- all slots are counted
   pub counted-all : (g : ℕ) (owed rooms : List ℕ) → g ≡ slots racks → CountedTo racks places g owed rooms → Tallied racks places owed rooms
-  unfolding owes room
+  unfolding owes
   counted-all g owed rooms e c =
       record {
         owed-are = record { counts = rw e at (c .owed-are); long = c .owed-long };
-        rooms-are = record { counts = rw e at (c .rooms-are); long = c .rooms-long };
+        rooms-are = rooms-all racks places rooms (rw e at (c .rooms-are));
       }
 
   -- slot g of a legal table is next
@@ -114,8 +111,8 @@ module _ (racks : List Rack) (places : List ℕ) where
           dest-rack = λ f. omega (arith, there-lt f);
           owed-long = c .owed-long;
           owed-fit = λ k. omega (arith, c .owed-few k);
-          rooms-long = c .rooms-long;
-          rooms-fit = λ k. omega (arith, c .rooms-few k);
+          rooms-long = c .rooms-are .long;
+          rooms-fit = λ k. omega (arith, c .rooms-are .few k);
         }
 
     -- its card is away by the table where it is away
@@ -148,19 +145,13 @@ module _ (racks : List Rack) (places : List ℕ) where
 
     -- one slot more is counted
     pub counted-more : (owed′ rooms′ : List ℕ) → Counted places table g owed rooms owed′ rooms′ → CountedTo racks places (g + 1) owed′ rooms′
-    unfolding owesWith roomsWith
+    unfolding owesWith
     counted-more owed′ rooms′ k =
         let at : ℕ = cell (getD table g 0) (getD table (dest places g) 0) in
         let m : awayBy places table g ≡ true → at < length owed = λ a. omega (arith, here-lt, there-lt (by-held a), c .owed-long) in
-        let r : free places g ≡ true → getD table g 0 < length rooms = λ _. omega (arith, here-lt, c .rooms-long) in
         record {
           owed-are = λ i p h h′. one-count _ at owed owed′ (k .owed-are) m g (cell i p) (bound racks places i p) (c .owed-are i p h h′) (bound-here i p h h′) (bound-none i p);
           owed-few = one-few _ at owed owed′ (k .owed-are) m g (c .owed-few);
           owed-long = one-long _ at owed owed′ (k .owed-are) m ∙ c .owed-long;
-          rooms-are = λ p h.
-              one-count _ (getD table g 0) rooms rooms′ (k .rooms-are) r g p (freeOn racks places p) (c .rooms-are p h)
-              (λ f q. on-is racks places p g f (sym (q ∙ here)))
-              (λ n. off (λ o. n (on-free racks places p g o) (sym (here ∙ on-rack racks places p g o))));
-          rooms-few = one-few _ (getD table g 0) rooms rooms′ (k .rooms-are) r g (c .rooms-few);
-          rooms-long = one-long _ (getD table g 0) rooms rooms′ (k .rooms-are) r ∙ c .rooms-long;
+          rooms-are = rooms-more racks places table (record { legal = v; filled = filled; small = small; few = few }) g l rooms rooms′ (c .rooms-are) (k .rooms-are);
         }

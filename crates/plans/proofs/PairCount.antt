@@ -108,11 +108,11 @@ module _ (racks : List Rack) (places : List ℕ) where
     -- its free slots are no more than there are slots
     pub room-few : getD rooms p 0 ≤ slots racks
     unfolding room
-    room-few = omega (arith, t .rooms-are .counts p l, count-le (slots racks) (freeOn racks places p))
+    room-few = omega (arith, t .rooms-are .counts p, count-le (slots racks) (freeOn racks places p))
 
     -- its pairs are added to those of the first p
     pub pairs-more : (n pairs x : ℕ) → n ≡ length racks → pairs ≡ sum p (pairsTo racks places) → x ≡ grants n owed p (getD rooms p 0) → pairs + x ≡ sum (p + 1) (pairsTo racks places)
     unfolding pairsTo
     pairs-more n pairs x en ep ex =
-        let y : x ≡ pairsTo racks places p = ex ∙ rw (en, t .rooms-are .counts p l) (grants-pairs racks places owed (t .owed-are) p l) in
+        let y : x ≡ pairsTo racks places p = ex ∙ rw (en, t .rooms-are .counts p) (grants-pairs racks places owed (t .owed-are) p l) in
         omega (arith, sum-more p (pairsTo racks places))

@@ -8,8 +8,9 @@ use lib.ListN.{length, getD}
 use Rattle.counting.specs.Tests.{_and_, pick}
 use Rattle.racks.specs.Racks.{Rack}
 use Rattle.racks.specs.Table.{dest, free, owes}
-use Rattle.phases.specs.Plan.{other, room}
+use Rattle.phases.specs.Plan.{other}
 use Rattle.queues.specs.Queued.{oneMore, roomsWith}
+use Rattle.queues.specs.Ready.{Roomy}
 
 -- where what rack i owes rack p stands
 abbrev pub cell : ℕ → ℕ → ℕ
@@ -19,11 +20,6 @@ cell i p = i * 64 + p
 pub record Owed (racks : List Rack) (places table : List ℕ) : Type 0 where
   pub counts : (i p : ℕ) → i < length racks → p < length racks → getD table (cell i p) 0 ≡ owes racks places i p
   pub long : length table ≡ 4096
-
--- the list has how many free slots each rack has
-pub record Roomy (racks : List Rack) (places rooms : List ℕ) : Type 0 where
-  pub counts : (p : ℕ) → p < length racks → getD rooms p 0 ≡ room racks places p
-  pub long : length rooms ≡ 64
 
 -- both counts of a table
 pub record Tallied (racks : List Rack) (places owed rooms : List ℕ) : Type 0 where

@@ -17,7 +17,7 @@ use Rattle.tables.specs.Tables.{Filled}
 use Rattle.phases.specs.Plan.{room}
 use Rattle.queues.specs.Queues.{rowsOf}
 use Rattle.queues.specs.Queued.{Firsts}
-use Rattle.queues.specs.Ready.{Ready}
+use Rattle.queues.specs.Ready.{Roomy, Ready}
 use Rattle.queues.proofs.Fits.{tailAt, tail-up, tail-in}
 use Rattle.queues.proofs.OpenSlots.{opens-are}
 use Rattle.queues.proofs.Queueing.{Tabled, Queueing, RoomsTo}
@@ -35,6 +35,11 @@ job-lasts job s = record { slots-are = sound-ends job s; long = ap (λ (j : Job)
 pub job-tabled : (job : Job) (places table : List ℕ) → Sound job × Filled (racksOf job) table × (first (tableChecks (racksOf job) places) ≡ 0) → Tabled (racksOf job) places table
 job-tabled job places table s = record { legal = legal (racksOf job) places (s .2); filled = s .1; small = s .0 .small; few = sound-few job (s .0) }
 
+-- the counts of free slots after all slots
+pub rooms-all : (racks : List Rack) (places rooms : List ℕ) → RoomsTo racks places (slots racks) rooms → Roomy racks places rooms
+unfolding room
+rooms-all racks places rooms c = record { counts = c .counts; long = c .long }
+
 module _ (racks : List Rack) (places table : List ℕ) (t : Tabled racks places table) where
   -- the queues end in the list
   tail-small : (p : ℕ) → p < length racks → tailAt racks places (slots racks) p ≤ 4096
@@ -43,7 +48,6 @@ module _ (racks : List Rack) (places table : List ℕ) (t : Tabled racks places 
   -- the rows after all slots
   pub queues-ready : (queue first tails rooms last : List ℕ) → Firsts racks first → Queueing racks places (slots racks) queue tails
       → RoomsTo racks places (slots racks) rooms → Lasts racks last → Ready racks places (rowsOf queue first tails first rooms last)
-  unfolding room
   queues-ready queue first tails rooms last f q c e =
       record {
         bounded =
@@ -64,7 +68,7 @@ module _ (racks : List Rack) (places table : List ℕ) (t : Tabled racks places 
         waits = λ p l. rw (f .slots-are p l, q .tails-are p l) (q .waits p l);
         open-slots = λ p l. rw (f .slots-are p l, e .slots-are p l)
             (opens-are racks places p l (base racks p) (omega arith) (base-mono racks p (suc p) (omega arith)) (λ g m m′. absurd (omega arith)));
-        rooms-are = c .counts;
+        rooms-are = rooms-all racks places rooms c;
         from-base = λ p l. omega (arith, f .slots-are p l);
         ends-are = e .slots-are;
       }

@@ -36,7 +36,7 @@ module _ (racks : List Rack) (places : List ℕ) (rows : Rows) (r : Ready racks 
   unfolding room openSlots
   ready-roomed p l =
       let m : p < length racks = omega arith in
-      r .rooms-are p ∙ sym (ap length (r .open-slots p m) ∙ length-select (slots racks) (freeOn racks places p))
+      r .rooms-are .counts p ∙ sym (ap length (r .open-slots p m) ∙ length-select (slots racks) (freeOn racks places p))
 
   pub ready-count : queuedPlan n rows places ≡ plan racks places
   ready-count = rw en (ready-plan racks places rows r)
