@@ -1,0 +1,61 @@
+use Prim.Native.Nat.{_-_, _/_}
+use borrow.Author.Needs.{needs}
+use Rattle.job_files.proofs.main.Statement.{statement}
+use Rattle.job_files.proofs.main.Tie as tie
+
+abbrev Inv-loop : tie.InvT-loop
+Inv-loop count k₀ k = Unit {0}
+
+abbrev μ-loop : tie.MeasureT-loop
+μ-loop count k₀ k = count / 2 - k
+
+arg-count-requires : tie.Need-arg-count-requires Inv-loop μ-loop
+arg-count-requires c κs = search needs
+
+loop-holds : tie.Need-loop-holds Inv-loop μ-loop
+loop-holds c = search needs
+
+mul-compare : tie.Need-mul-compare Inv-loop μ-loop
+mul-compare c = search needs
+
+add-compare : tie.Need-add-compare Inv-loop μ-loop
+add-compare c = search needs
+
+mul-compare-2 : tie.Need-mul-compare-2 Inv-loop μ-loop
+mul-compare-2 c = search needs
+
+add-compare-2 : tie.Need-add-compare-2 Inv-loop μ-loop
+add-compare-2 c = search needs
+
+compare-requires : tie.Need-compare-requires Inv-loop μ-loop
+compare-requires c κs = search needs
+
+add-k : tie.Need-add-k Inv-loop μ-loop
+add-k c = search needs
+
+loop-less : tie.Need-loop-less Inv-loop μ-loop
+loop-less c = search needs
+
+loop-again : tie.Need-loop-again Inv-loop μ-loop
+loop-again c = search needs
+
+returns : tie.Need-returns Inv-loop μ-loop
+returns c = search needs
+
+pub main-spec : {M : Type 1} → statement M
+main-spec =
+    tie.close
+    (tie.spec
+    Inv-loop
+    μ-loop
+    arg-count-requires
+    loop-holds
+    mul-compare
+    add-compare
+    mul-compare-2
+    add-compare-2
+    compare-requires
+    add-k
+    loop-less
+    loop-again
+    returns)
