@@ -1,3 +1,13 @@
+pub mod Rows
+pub mod Says
+pub mod Forms
+pub mod FileRows
+pub mod CallRows
+pub mod Demand1
+pub mod Refusals
+pub mod OneOutcome
+pub mod CaseOne
+pub mod ShutOut
 pub mod Acceptance
 pub mod Calls
 pub mod Points

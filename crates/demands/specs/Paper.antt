@@ -28,16 +28,24 @@ use Rattle.jobfile.specs.File.{wrongN, wrongB, wrongM, wrongEntry, entryOf, rea
 use Rattle.listing.specs.Text.{digit, digits, decimal, hex}
 use Rattle.listing.specs.Listing.{slotText, arrow, phaseLines, copiesLine, cardText, cardsLine, endLine, refusedLine, programChecks, fileHeld, runText, listing}
 
--- case 1: the racks, the table and the cards
-abbrev racks1 : List Rack
-racks1 = ofCaps (2 ∷ 2 ∷ 1 ∷ [])
+-- case 1: the capacities, the racks, the table and the cards, and all of it as a file
+abbrev pub caps1 : List ℕ
+caps1 = 2 ∷ 2 ∷ 1 ∷ []
 
-abbrev held1 : Held
+abbrev racks1 : List Rack
+racks1 = ofCaps caps1
+
+abbrev pub held1 : Held
 held1 =
     record {
       places = 3 ∷ 4 ∷ FREE ∷ 0 ∷ 6 ∷ FREE ∷ 1 ∷ FREE ∷ [];
       cards = 0x41 ∷ 0x42 ∷ 0x00 ∷ 0x43 ∷ 0x44 ∷ 0x00 ∷ 0x45 ∷ 0x00 ∷ [];
     }
+
+abbrev pub file1 : List ℕ
+file1 =
+    0x03 ∷ 0x01 ∷ 0x02 ∷ 0x02 ∷ 0x01 ∷ 0x04 ∷ 0x05 ∷ 0x00 ∷ 0x01 ∷ 0x07 ∷ 0x00 ∷ 0x02 ∷ 0x00
+    ∷ 0x41 ∷ 0x42 ∷ 0x00 ∷ 0x43 ∷ 0x44 ∷ 0x00 ∷ 0x45 ∷ 0x00 ∷ []
 
 -- case 3
 abbrev racks3 : List Rack
@@ -74,9 +82,7 @@ runs racks places plans list = (phases racks places ≡ plans) × (copyList (car
 
 pub record Paper : Type 0 where
   -- 1: the 21 bytes, and exactly what shelve prints
-  pub shelve : listing
-      (0x03 ∷ 0x01 ∷ 0x02 ∷ 0x02 ∷ 0x01 ∷ 0x04 ∷ 0x05 ∷ 0x00 ∷ 0x01 ∷ 0x07 ∷ 0x00 ∷ 0x02 ∷ 0x00
-      ∷ 0x41 ∷ 0x42 ∷ 0x00 ∷ 0x43 ∷ 0x44 ∷ 0x00 ∷ 0x45 ∷ 0x00 ∷ [])
+  pub shelve : listing file1
       ≡ text "phase 1: 3>2 0>5 4>7\n"
       ++ text "phase 2: 6>0 1>3\n"
       ++ text "copies: 0>1 2>0 3>4 5>3 7>6\n"

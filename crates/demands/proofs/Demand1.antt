@@ -1,0 +1,80 @@
+-- Demand 1 holds. Assumes nothing.
+use mathlib.Core.Path.{_≡_}
+use mathlib.Core.Logic.{_≢_, _↔_}
+use mathlib.Core.List.{List, _∷_}
+use Prim.Native.Nat.{ℕ, suc, _≤_, _<_}
+use native.Mathlib.Omega.{arith}
+use lib.ListN.{length}
+use borrow.Author.Tests.{ne-eqb}
+use Rattle.counting.specs.Checks.{first}
+use Rattle.racks.specs.Racks.{Rack, base, slots, rackOf}
+use Rattle.racks.proofs.Caps.{length-caps, users-caps, slots-caps}
+use Rattle.racks.proofs.Geometry.{rack-lt, rack-in, rack-is}
+use Rattle.tables.specs.Check.{checked}
+use Rattle.slots.specs.Slots.{slotChecks, asked}
+use Rattle.phases.specs.Plan.{planChecks, planned}
+use Rattle.moves.specs.Moves.{moveChecks, moved}
+use Rattle.moves.specs.Phases.{budgeted}
+use Rattle.copies.specs.Copies.{copyChecks, copied}
+use Rattle.shuffle.specs.Shuffle.{shuffleChecks, shuffled}
+use Rattle.runs.specs.Run.{ran}
+use Rattle.jobfile.specs.File.{fileRacks, fileBytes, readChecks, read}
+use Rattle.listing.specs.Listing.{refusedLine, fileHeld, runText, programChecks, listing, handedOver, printed}
+use Rattle.demands.specs.Rows.{None, Holds, Given}
+use Rattle.demands.specs.FileConditions.{fileRows, FileTooLarge}
+use Rattle.demands.specs.Demand1.{Demand1}
+use Rattle.demands.proofs.Rows.{given-none, given-row, holds-some}
+use Rattle.demands.proofs.Says.{says-or, says-lt, says-user, says-7, says-12, says-13}
+use Rattle.demands.proofs.CallRows.{given-table, given-cards, given-table-only, given-cards-only, given-ends}
+use Rattle.demands.proofs.Forms.{given-form, number-ends, number-good}
+use Rattle.demands.proofs.FileRows.{given-file, given-file-only}
+
+-- the rack of a slot
+rack-of : (racks : List Rack) (g p : ℕ) → g < slots racks → (rackOf racks g ≡ p) ↔ ((p < length racks) × (base racks p ≤ g) × (g < base racks (suc p)))
+rack-of racks g p l = (
+  λ e. let r = rack-in racks p g l e in (omega (arith, rack-lt racks g l), r .0, r .1),
+  λ r. rack-is racks p g (r .0) (r .1) (r .2),
+)
+
+-- the program's number
+module _ (file : List ℕ) where
+  given-program : Given (first (programChecks file)) ((18, FileTooLarge file) ∷ fileRows file)
+  unfolding programChecks
+  given-program = given-row _ (λ e. omega arith) (says-lt 32768 (length file)) (given-file-only file)
+
+  refuses : (n : ℕ) → Holds n ((18, FileTooLarge file) ∷ fileRows file) → listing file ≡ refusedLine n
+  unfolding listing
+  refuses n h =
+      let f : n ≢ 0 = holds-some n _ (given-program .numbered) h in
+      let e : first (programChecks file) ≡ n = given-program .refused n f .1 h in
+      rw (e, ne-eqb n 0 f)
+
+  runs : None ((18, FileTooLarge file) ∷ fileRows file) → listing file ≡ runText (fileRacks file) (fileBytes file) (fileHeld file)
+  unfolding listing
+  runs h = rw (given-program .done .1 h)
+
+pub demand1 : Demand1
+unfolding checked slotChecks asked planChecks planned moveChecks moved budgeted copyChecks copied shuffleChecks shuffled ran readChecks read handedOver printed
+demand1 =
+    record {
+      check-table = given-table-only;
+      slot-question = λ racks places g. given-table racks places _ _ (given-row _ (λ e. omega arith) (says-7 racks g) given-none);
+      phase-plan = λ racks places lent. given-table racks places _ _ (given-row _ (λ e. omega arith) (says-13 lent _) given-none);
+      one-move = λ racks b h from to. given-cards racks (h .places) _ _ (given-ends racks (h .places) from to) b (h .cards);
+      budgeted-moves = λ racks b h k. given-cards-only racks (h .places) b (h .cards);
+      copy-list = λ racks places lent. given-table racks places _ _
+          (given-row _ (λ e. omega arith) (says-12 racks places) (given-row _ (λ e. omega arith) (says-13 lent _) given-none));
+      shuffle-cards = λ racks b h. given-cards racks (h .places) _ _ (given-row _ (λ e. omega arith) (says-12 racks (h .places)) given-none) b (h .cards);
+      whole-run = λ racks b h. given-cards-only racks (h .places) b (h .cards);
+      read-file = λ file caps places. given-file file _ _ (given-row _ (λ e. omega arith) (says-or (says-lt (length caps) _) (says-lt (length places) _)) given-none);
+      list-job = λ file lent. given-row _ (λ e. omega arith) (says-13 lent _) given-none;
+      form = given-form;
+      ends = number-ends;
+      value = number-good;
+      shelve-refuses = refuses;
+      shelve-runs = runs;
+      capacities = λ caps. (length-caps caps, slots-caps caps);
+      users-lent = users-caps;
+      rack = rack-of;
+      user = says-user;
+    }

@@ -1,0 +1,124 @@
+-- One outcome for each public call. Assumes nothing.
+use mathlib.Core.Path.{_≡_, refl, ap, sym, _∙_}
+use mathlib.Core.List.{List}
+use Prim.Native.Nat.{ℕ}
+use native.Mathlib.Omega.{arith}
+use denote.Ref.{RefT, now}
+use Rattle.racks.specs.Answers.{Listed, listedOf}
+use Rattle.racks.specs.declared.Answer.{Answer}
+use Rattle.moves.specs.Moves.{Outcome}
+use Rattle.moves.specs.Parts.{outcomeOf}
+use Rattle.jobfile.specs.Number.{Got, number}
+use Rattle.jobfile.specs.File.{Read}
+use Rattle.jobfile.specs.Answers.{readOf, gotOf}
+use Rattle.jobfile.specs.declared.Number.{Number}
+use Rattle.jobfile.specs.declared.Number.the-variants.{Value, Refused}
+use Rattle.jobfile.specs.declared.FileAnswer.{FileAnswer}
+use Rattle.jobfile.proofs.Groups.{place-some}
+use Rattle.jobreader.specs.Reading.{placeAfter, Stepped, Next, JobRead}
+use Rattle.jobreader.specs.declared.Reader.{Reader}
+use Rattle.jobreader.specs.declared.Step.{Step}
+use Rattle.jobreader.specs.declared.JobFile.{JobFile}
+use Rattle.listing.specs.Listing.{Printed}
+use Rattle.listing.specs.Writing.{printedOf}
+use Rattle.listing.specs.declared.TextAnswer.{TextAnswer}
+use Rattle.demands.specs.OneOutcome.{One, OneSeen, jobSeen, OneOutcome}
+
+-- the law: what is equal to one outcome, and can be read back from it, is one
+one : {A B : Type 0} (f : A → B) (back : B → A) → ((x : A) → back (f x) ≡ x) → (z : B) → One (λ (x : A). f x ≡ z)
+one f back i z x y p q = sym (i x) ∙ ap back (p ∙ sym q) ∙ i y
+
+-- an answer by itself
+same : {A : Type 0} (z : A) → One (λ (x : A). x ≡ z)
+same z x y p q = p ∙ sym q
+
+-- an answer with a lent list, and with the table and the cards
+listed : (z : Listed) → One (λ ((r, lent) : Answer × List ℕ). listedOf r lent ≡ z)
+listed z = one (λ (x : Answer × List ℕ). listedOf (x .0) (x .1)) (λ (o : Listed). (o .answer, o .lent)) (λ x. refl) z
+
+carded : (z : Outcome) → One (λ ((r, places, cards) : Answer × List ℕ × List ℕ). outcomeOf r places cards ≡ z)
+carded z = one (λ (x : Answer × List ℕ × List ℕ). outcomeOf (x .0) (x .1) (x .2)) (λ (o : Outcome). (o .answer, o .held .places, o .held .cards)) (λ x. refl) z
+
+-- a file read
+filed : (file : List ℕ) (z : Read) → One (λ ((r, caps, places) : FileAnswer × List ℕ × List ℕ). readOf r caps places file ≡ z)
+unfolding readOf
+filed file z =
+    one (λ (x : FileAnswer × List ℕ × List ℕ). readOf (x .0) (x .1) (x .2) file)
+    (λ (o : Read). (record { answer = o .answer; racks = o .racks; bytes = o .bytes; slots = o .slots; place = o .place }, o .caps, o .places)) (λ x. refl) z
+
+-- a text in a lent buffer
+texted : (z : Printed) → One (λ ((r, lent) : TextAnswer × List ℕ). printedOf r lent ≡ z)
+unfolding printedOf
+texted z =
+    one (λ (x : TextAnswer × List ℕ). printedOf (x .0) (x .1))
+    (λ (o : Printed). (record { answer = o .answer; size = o .size }, o .lent)) (λ x. refl) z
+
+-- a number read: a value comes with a place behind it, so it is no refusal
+module _ (file : List ℕ) (at : ℕ) where
+  no-mix : (v p n : ℕ) → gotOf (Value v p) ≡ number file at → gotOf (Refused n) ≡ number file at → ⊥
+  unfolding gotOf number
+  no-mix v p n a b =
+      omega (arith, place-some 3 file at 0 1 (sym (ap (λ (g : Got). g .number) a)), ap (λ (g : Got). g .place) b)
+
+  one-number : (m n : Number) → gotOf m ≡ number file at → gotOf n ≡ number file at → m ≡ n
+  unfolding gotOf
+  one-number (Value v p) (Value w q) a b = ap (λ (g : Got). Value (g .value) (g .place)) (a ∙ sym b)
+  one-number (Value v p) (Refused n) a b = absurd (no-mix v p n a b)
+  one-number (Refused m) (Value w q) a b = absurd (no-mix w q m b a)
+  one-number (Refused m) (Refused n) a b = ap (λ (g : Got). Refused (g .number)) (a ∙ sym b)
+
+one-step : (file : List ℕ) (at : ℕ) → One (λ (r : Step). Stepped file at r)
+one-step file at x y p q =
+    let e = one-number file at (x .number) (y .number) (p .got-is) (q .got-is) in
+    let f : x .at ≡ y .at = p .at-is ∙ ap (λ (n : Number). placeAfter n at) e ∙ sym (q .at-is) in
+    λ i. record { number = e i; at = f i }
+
+one-next : (reader : Reader) → One (λ ((n, after) : Number × Reader). Next reader n after)
+one-next reader (m, x) (n, y) p q =
+    let e = one-number (now (reader .file)) (reader .at) m n (p .got-is) (q .got-is) in
+    let f : x .at ≡ y .at = p .at-is ∙ ap (λ (k : Number). placeAfter k (reader .at)) e ∙ sym (q .at-is) in
+    let g : x .file ≡ y .file = p .file-is ∙ sym (q .file-is) in
+    λ i. (e i, record { file = g i; at = f i })
+
+one-new : (file : RefT (List ℕ)) → One (λ (r : Reader). (r .file ≡ file) × (r .at ≡ 0))
+one-new file x y p q =
+    let f = p .0 ∙ sym (q .0) in
+    let g = p .1 ∙ sym (q .1) in
+    λ i. record { file = f i; at = g i }
+
+one-job : (file caps places : List ℕ) → OneSeen jobSeen (λ ((job, caps′, places′) : JobFile × List ℕ × List ℕ). JobRead file caps places job caps′ places′)
+one-job file caps places (x, c, p) (y, d, q) a b =
+    let e0 = a .answer-is ∙ sym (b .answer-is) in
+    let e1 = a .racks-are ∙ sym (b .racks-are) in
+    let e2 = a .bytes-are ∙ sym (b .bytes-are) in
+    let e3 = a .slots-are ∙ sym (b .slots-are) in
+    let e4 = a .cards-are ∙ sym (b .cards-are) in
+    let e5 = a .caps-are ∙ sym (b .caps-are) in
+    let e6 = a .places-are ∙ sym (b .places-are) in
+    λ i. (e0 i, e1 i, e2 i, e3 i, e4 i, e5 i, e6 i)
+
+pub one-outcome : OneOutcome
+one-outcome =
+    record {
+      check-table = λ caps places. same _;
+      slot-question = λ caps places g. same _;
+      phase-plan = λ caps places lent. listed _;
+      one-move = λ caps b places cards from to. carded _;
+      budgeted-moves = λ caps b places cards k. carded _;
+      copy-list = λ caps places lent. listed _;
+      shuffle-cards = λ caps b places cards. carded _;
+      whole-run = λ caps b places cards. carded _;
+      read-file = λ file caps places. filed file _;
+      list-job = λ file lent. texted _;
+      card-bytes = λ file found x y p q. p ∙ sym q;
+      step-at = one-step;
+      new = one-new;
+      next = one-next;
+      read-job = one-job;
+      job-of = λ caps. same _;
+      tally-none = same _;
+      tally-of-moves = λ moves. same _;
+      tally-of-copies = λ copies. same _;
+      answer-of = λ n. same _;
+      answer-done = λ tally. same _;
+    }

@@ -1,0 +1,88 @@
+-- Demand 1: a call gives number n exactly when 01's condition n holds and no earlier one of the call's list does, and 0 exactly when none holds;
+-- a refusal changes nothing lent and gives 0 for all else. Assumes nothing: these are statements; `demand1` in proofs/Demand1 and `refusals` in proofs/Refusals prove them.
+use mathlib.Core.Path.{_≡_}
+use mathlib.Core.Logic.{_≢_, _↔_}
+use mathlib.Core.Bool.{true}
+use mathlib.Core.List.{List, [], _∷_}
+use Prim.Native.Nat.{ℕ, suc, _+_, _≤_, _<_}
+use lib.ListN.{length, getD}
+use Rattle.counting.specs.Lists.{flat}
+use Rattle.racks.specs.Racks.{Rack, ofCaps, users, total, base, slots, rackOf, isUser}
+use Rattle.racks.specs.Answers.{noCounts}
+use Rattle.racks.specs.declared.Answer.{Answer}
+use Rattle.tables.specs.Check.{checked}
+use Rattle.slots.specs.Slots.{nothing, asked}
+use Rattle.phases.specs.Plan.{plan, planned}
+use Rattle.moves.specs.Moves.{Held, moved}
+use Rattle.moves.specs.Phases.{budgeted}
+use Rattle.copies.specs.Copies.{copyList, copied}
+use Rattle.shuffle.specs.Shuffle.{shuffled}
+use Rattle.runs.specs.Run.{ran}
+use Rattle.jobfile.specs.Number.{number}
+use Rattle.jobfile.specs.File.{fileRacks, fileBytes, read}
+use Rattle.listing.specs.Listing.{refusedLine, fileHeld, runText, listing, printed}
+use Rattle.demands.specs.Rows.{None, Holds, Given, _then_}
+use Rattle.demands.specs.Conditions.{UserSlot, NoSlot, CardAway, TooShort, tableRows, cardRows, endRows}
+use Rattle.demands.specs.FileConditions.{EndsWith, valueOf, formRows, fileRows, NoRoom, FileTooLarge}
+
+-- the number of each call
+pub record Demand1 : Type 0 where
+  pub check-table : (racks : List Rack) (places : List ℕ) → Given (checked racks places .number) (tableRows racks places)
+  pub slot-question : (racks : List Rack) (places : List ℕ) (g : ℕ)
+      → Given (asked racks places g .answer .number) (tableRows racks places then (7, NoSlot racks g) ∷ [])
+  pub phase-plan : (racks : List Rack) (places lent : List ℕ)
+      → Given (planned racks places lent .answer .number) (tableRows racks places then (13, TooShort lent (flat (plan racks places))) ∷ [])
+  pub one-move : (racks : List Rack) (b : ℕ) (h : Held) (from to : ℕ)
+      → Given (moved racks b h (from, to) .answer .number) (cardRows racks b (h .places) (h .cards) then endRows racks (h .places) from to)
+  pub budgeted-moves : (racks : List Rack) (b : ℕ) (h : Held) (k : ℕ) → Given (budgeted racks b h k .answer .number) (cardRows racks b (h .places) (h .cards))
+  pub copy-list : (racks : List Rack) (places lent : List ℕ)
+      → Given (copied racks places lent .answer .number)
+      (tableRows racks places then (12, CardAway racks places) ∷ (13, TooShort lent (flat (copyList places))) ∷ [])
+  pub shuffle-cards : (racks : List Rack) (b : ℕ) (h : Held)
+      → Given (shuffled racks b h .answer .number) (cardRows racks b (h .places) (h .cards) then (12, CardAway racks (h .places)) ∷ [])
+  pub whole-run : (racks : List Rack) (b : ℕ) (h : Held) → Given (ran racks b h .answer .number) (cardRows racks b (h .places) (h .cards))
+  pub read-file : (file caps places : List ℕ)
+      → Given (read file caps places .answer .number) (fileRows file then (17, NoRoom file caps places) ∷ [])
+  pub list-job : (file lent : List ℕ) → Given (printed file lent .answer .number) ((13, TooShort lent (listing file)) ∷ [])
+  -- one number of a file: 14, 15, or its value by its groups and the place behind the last
+  pub form : (file : List ℕ) (at : ℕ) → Given (number file at .number) (formRows file at)
+  pub ends : (file : List ℕ) (at : ℕ) → number file at .number ≡ 0 → (i : ℕ) × EndsWith file at i
+  pub value : (file : List ℕ) (at i : ℕ) → EndsWith file at i → number file at ≡ record { number = 0; value = valueOf file at i; place = at + i + 1 }
+  -- the program looks at 18 before all else; its text says `refused n`, or is that of a run
+  pub shelve-refuses : (file : List ℕ) (n : ℕ) → Holds n ((18, FileTooLarge file) ∷ fileRows file) → listing file ≡ refusedLine n
+  pub shelve-runs : (file : List ℕ) → None ((18, FileTooLarge file) ∷ fileRows file) → listing file ≡ runText (fileRacks file) (fileBytes file) (fileHeld file)
+  -- the words of the conditions: N and the m_p are those of the capacities lent, S = total + N
+  pub capacities : (caps : List ℕ) → (length (ofCaps caps) ≡ length caps) × (slots (ofCaps caps) ≡ total (ofCaps caps) + length caps)
+  pub users-lent : (caps : List ℕ) (p : ℕ) → p < length caps → users (ofCaps caps) p ≡ getD caps p 0
+  -- the rack of a slot begins at the slot or before and ends behind it, before the next one's first
+  pub rack : (racks : List Rack) (g p : ℕ) → g < slots racks
+      → (rackOf racks g ≡ p) ↔ ((p < length racks) × (base racks p ≤ g) × (g < base racks (suc p)))
+  -- and the slot question's user slots are those of condition 5
+  pub user : (racks : List Rack) (g : ℕ) → (isUser racks g ≡ true) ↔ UserSlot racks g
+
+-- a refusal: its number, and no counts
+abbrev pub refusedWith : ℕ → Answer
+refusedWith n = record { number = n; tally = noCounts }
+
+-- what each call leaves on a refusal, all of it
+pub record Refusals : Type 0 where
+  pub check-table : (racks : List Rack) (places : List ℕ) (n : ℕ) → n ≢ 0 → checked racks places .number ≡ n → checked racks places ≡ refusedWith n
+  pub slot-question : (racks : List Rack) (places : List ℕ) (g n : ℕ) → n ≢ 0 → asked racks places g .answer .number ≡ n
+      → asked racks places g ≡ record { answer = refusedWith n; slot = nothing }
+  pub phase-plan : (racks : List Rack) (places lent : List ℕ) (n : ℕ) → n ≢ 0 → planned racks places lent .answer .number ≡ n
+      → planned racks places lent ≡ record { answer = refusedWith n; lent = lent }
+  pub one-move : (racks : List Rack) (b : ℕ) (h : Held) (from to n : ℕ) → n ≢ 0 → moved racks b h (from, to) .answer .number ≡ n
+      → moved racks b h (from, to) ≡ record { answer = refusedWith n; held = h }
+  pub budgeted-moves : (racks : List Rack) (b : ℕ) (h : Held) (k n : ℕ) → n ≢ 0 → budgeted racks b h k .answer .number ≡ n
+      → budgeted racks b h k ≡ record { answer = refusedWith n; held = h }
+  pub copy-list : (racks : List Rack) (places lent : List ℕ) (n : ℕ) → n ≢ 0 → copied racks places lent .answer .number ≡ n
+      → copied racks places lent ≡ record { answer = refusedWith n; lent = lent }
+  pub shuffle-cards : (racks : List Rack) (b : ℕ) (h : Held) (n : ℕ) → n ≢ 0 → shuffled racks b h .answer .number ≡ n
+      → shuffled racks b h ≡ record { answer = refusedWith n; held = h }
+  pub whole-run : (racks : List Rack) (b : ℕ) (h : Held) (n : ℕ) → n ≢ 0 → ran racks b h .answer .number ≡ n
+      → ran racks b h ≡ record { answer = refusedWith n; held = h }
+  pub read-file : (file caps places : List ℕ) (n : ℕ) → n ≢ 0 → read file caps places .answer .number ≡ n
+      → read file caps places
+      ≡ record { answer = refusedWith n; racks = 0; bytes = 0; slots = 0; caps = caps; places = places; place = 0; cards = [] }
+  pub list-job : (file lent : List ℕ) (n : ℕ) → n ≢ 0 → printed file lent .answer .number ≡ n
+      → printed file lent ≡ record { answer = refusedWith n; size = 0; lent = lent }
