@@ -11,9 +11,11 @@ use Rattle.slots.specs.declared.SlotAnswer as slots
 use Rattle.seineflute.specs.declared.Answer.{Answer}
 use Rattle.seineflute.specs.declared.SlotAnswer.{SlotAnswer}
 use Rattle.seineflute.specs.declared.FileAnswer.{FileAnswer}
+use Rattle.seineflute.specs.declared.ListingAnswer.{ListingAnswer}
 use Rattle.racks.specs.declared.Answer as racks
 use Rattle.jobfile.specs.declared.FileAnswer as jobfile
-use Rattle.seineflute.specs.Flat.{answerOf, kindNumber, stateNumber, rackNumber, slotNumbers, fileOf}
+use Rattle.listing.specs.declared.TextAnswer as listing
+use Rattle.seineflute.specs.Flat.{answerOf, kindNumber, stateNumber, rackNumber, slotNumbers, fileOf, textOf}
 
 -- two answers of four numbers that are one answer of the layers are equal
 pub answer-same : (a b : Answer) → answerOf a ≡ answerOf b → a ≡ b
@@ -32,6 +34,18 @@ file-same a b e =
       bytes = x .bytes;
       slots = x .slots;
       place = x .place;
+    }) e
+
+-- two answers of five numbers that are one answer of the listing are equal
+pub text-same : (a b : ListingAnswer) → textOf a ≡ textOf b → a ≡ b
+text-same a b e =
+    ap (λ (x : listing.TextAnswer).
+    record {
+      number = x .answer .number;
+      phases = x .answer .tally .phases;
+      moves = x .answer .tally .moves;
+      copies = x .answer .tally .copies;
+      size = x .size;
     }) e
 
 -- the kind that a number stands for

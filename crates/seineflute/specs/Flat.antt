@@ -7,9 +7,11 @@ use Rattle.slots.specs.declared.State.{State}
 use Rattle.slots.specs.declared.State.the-variants as state
 use Rattle.slots.specs.declared.SlotAnswer as slots
 use Rattle.jobfile.specs.declared.FileAnswer as jobfile
+use Rattle.listing.specs.declared.TextAnswer as listing
 use Rattle.seineflute.specs.declared.Answer.{Answer}
 use Rattle.seineflute.specs.declared.SlotAnswer.{SlotAnswer}
 use Rattle.seineflute.specs.declared.FileAnswer.{FileAnswer}
+use Rattle.seineflute.specs.declared.ListingAnswer.{ListingAnswer}
 
 -- the answer that four numbers are
 abbrev pub answerOf : Answer → racks.Answer
@@ -59,4 +61,12 @@ fileOf r =
       bytes = r .bytes;
       slots = r .slots;
       place = r .place;
+    }
+
+-- the listing's answer that five numbers are
+abbrev pub textOf : ListingAnswer → listing.TextAnswer
+textOf r =
+    record {
+      answer = record { number = r .number; tally = record { phases = r .phases; moves = r .moves; copies = r .copies } };
+      size = r .size;
     }

@@ -14,7 +14,9 @@ ghost use Rattle.shuffle.specs.Shuffle.{shuffled};
 ghost use Rattle.runs.specs.Run.{ran};
 ghost use Rattle.jobfile.specs.File.{read};
 ghost use Rattle.jobfile.specs.Answers.{readOf};
-ghost use Rattle.seineflute.specs.Flat.{answerOf, slotNumbers, fileOf};
+ghost use Rattle.listing.specs.Listing.{printed};
+ghost use Rattle.listing.specs.Writing.{printedOf};
+ghost use Rattle.seineflute.specs.Flat.{answerOf, slotNumbers, fileOf, textOf};
 
 pub mod parts;
 
@@ -50,6 +52,16 @@ pub struct FileAnswer {
     pub bytes: usize,
     pub slots: usize,
     pub place: usize,
+}
+
+// What the listing gives: the number, and how many bytes the text has; 0 on a refusal.
+#[repr(C)]
+pub struct ListingAnswer {
+    pub number: usize,
+    pub phases: usize,
+    pub moves: usize,
+    pub copies: usize,
+    pub size: usize,
 }
 
 // Table check.
@@ -158,4 +170,13 @@ pub extern "C" fn seineflute_read_file(
 {
     let found = jobfile::read_file(file, caps, places);
     parts::file_numbers(found)
+}
+
+// The listing.
+#[no_mangle]
+pub extern "C" fn seineflute_list_job(file: &[u8], out: &mut [u8]) -> ListingAnswer
+    ensures { λ r. ⌜ printedOf (textOf r) (now (out .exit)) ≡ printed (now (file .entry)) (now (out .entry)) ⌝ }
+{
+    let found = listing::list_job(file, out);
+    parts::text_numbers(found)
 }

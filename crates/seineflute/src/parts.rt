@@ -1,8 +1,9 @@
 // The layers' answers as plain numbers.
 ghost use mathlib.Core.Path.{_≡_};
-ghost use Rattle.seineflute.specs.Flat.{answerOf, kindNumber, stateNumber, rackNumber, slotNumbers, fileOf};
+ghost use Rattle.seineflute.specs.Flat.{answerOf, kindNumber, stateNumber, rackNumber, slotNumbers, fileOf, textOf};
 use crate::Answer;
 use crate::FileAnswer;
+use crate::ListingAnswer;
 use crate::SlotAnswer;
 use slots::Kind;
 use slots::State;
@@ -87,5 +88,18 @@ pub fn file_numbers(found: jobfile::FileAnswer) -> FileAnswer
         bytes: found.bytes,
         slots: found.slots,
         place: found.place,
+    }
+}
+
+// The listing's answer.
+pub fn text_numbers(found: listing::TextAnswer) -> ListingAnswer
+    ensures { λ r. ⌜ textOf r ≡ found ⌝ }
+{
+    ListingAnswer {
+        number: found.answer.number as usize,
+        phases: found.answer.tally.phases,
+        moves: found.answer.tally.moves,
+        copies: found.answer.tally.copies,
+        size: found.size,
     }
 }
