@@ -18,7 +18,8 @@ use Rattle.racks.specs.Legal.{Legal}
 use Rattle.racks.proofs.LegalTable.{legal-dest}
 use Rattle.copies.specs.Copies.{next, source, onward, back, onCycle, head}
 use Rattle.copies.specs.Chains.{Chained}
-use Rattle.copies.proofs.Members.{In, Distinct, last-in, pigeon}
+use Rattle.counting.specs.Every.{In, Distinct}
+use Rattle.copies.proofs.Members.{last-in, pigeon}
 use Rattle.copies.proofs.Walks.{Ends, Path, Undoes, after-path, walk-distinct, walk-low, walk-ends, turns-back}
 
 -- an entry that is there, whatever is read where none is

@@ -6,7 +6,6 @@ use mathlib.Core.List.{List, [], _∷_, _++_}
 use Prim.Native.Nat.{ℕ, _+_, _<_}
 use native.Mathlib.Omega.{arith}
 use native.Mathlib.Decide.{ℕ-discrete}
-use lib.Dec.{eqb}
 use lib.ListN.{length, length-append}
 use borrow.Author.Tests.{eq-eqb, ne-eqb}
 use Rattle.counting.specs.Tests.{_and_, bit}
@@ -18,22 +17,14 @@ use Rattle.racks.specs.Limits.{FREE}
 use Rattle.racks.specs.Table.{dest, free, settled}
 use Rattle.copies.specs.Copies.{next, onward, head, factor, copies, factors, copyList}
 use Rattle.copies.specs.Chains.{Chained}
-use Rattle.copies.proofs.Members.{In, Distinct, in-among, among-off, among-none, among-other, last-in}
+use Rattle.counting.specs.Every.{In, Distinct}
+use Rattle.copies.proofs.Members.{in-among, among-off, among-none, among-other, last-in}
 use Rattle.copies.proofs.Walks.{Path, Ends}
 use Rattle.copies.proofs.Chains.{next-is, head-low, onward-low, onward-distinct, onward-path, onward-ends}
 use Rattle.copies.proofs.Factors.{Factored, factors-are, factors-once, factors-all, factors-slots}
 use Rattle.copies.proofs.Factors.Factored.{ended, began}
 use Rattle.copies.proofs.Costs.{length-shift, length-cycle, copies-shift, copies-cycle, cost-settled}
-
--- slot g has a card that is not settled
-unfoldable pub unsettled : List ℕ → ℕ → Bool
-unsettled places g = not (free places g) and not (settled places g)
-
--- a factor is a cycle, of two slots or more
-unfoldable pub turning : List ℕ → List ℕ → Bool
-turning places [] = false
-turning places (x ∷ []) = false
-turning places (x ∷ y ∷ l) = not (eqb (next places (last y l)) FREE)
+use Rattle.copies.specs.Factors.{unsettled, turning}
 
 module _ {A : Type 0} (f : A → Bool) where
   matching-append : (a b : List A) → matching f (a ++ b) ≡ matching f a + matching f b

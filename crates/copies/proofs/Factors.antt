@@ -7,24 +7,16 @@ use native.Mathlib.Omega.{arith}
 use native.Mathlib.Decide.{ℕ-discrete, decLt}
 use lib.ListN.{length}
 use Rattle.counting.specs.Lists.{last, join}
-use Rattle.counting.proofs.Every.{All, Pairwise}
-use Rattle.counting.proofs.Every.All.{more, none}
-use Rattle.counting.proofs.Every.Pairwise.{end, link}
+use Rattle.counting.specs.Every.{All, Pairwise, In, Distinct}
+use Rattle.counting.specs.Every.All.{more, none}
+use Rattle.counting.specs.Every.Pairwise.{end, link}
 use Rattle.racks.specs.Limits.{FREE}
 use Rattle.copies.specs.Copies.{next, source, onward, back, head, factor, factorsFrom, factors}
 use Rattle.copies.specs.Chains.{Chained}
-use Rattle.copies.proofs.Members.{In, Distinct, in?, in-among, among-off, in-left, in-right, in-cases, last-in, distinct-append}
+use Rattle.copies.proofs.Members.{in?, in-among, among-off, in-left, in-right, in-cases, last-in, distinct-append}
 use Rattle.copies.proofs.Walks.{Ends, Path, comes-from, goes-to}
 use Rattle.copies.proofs.Chains.{next-has, source-next, next-source, onward-low, onward-distinct, onward-path, onward-ends, back-path, head-cases, head-low}
-
--- k is the lowest slot of a factor
-pub record Lowest (k : ℕ) (slots : List ℕ) : Type 0 where
-  pub member : In k slots
-  pub least : (v : ℕ) → In v slots → k ≤ v
-
--- a factor that comes later has a higher lowest slot
-abbrev pub Before : List ℕ → List ℕ → Type 0
-Before a b = (j k : ℕ) → Lowest j a → Lowest k b → j < k
+use Rattle.copies.specs.Factors.{Lowest, Before}
 
 module _ {places : List ℕ} (ok : Chained places) where
   -- a chain has where its cards go

@@ -13,16 +13,7 @@ use Rattle.counting.specs.Count.{count}
 use Rattle.counting.specs.Lists.{among, last}
 use Rattle.counting.proofs.Tests.{by-test, off, no-way, or-l, or-r, or-on}
 use Rattle.counting.proofs.Count.{count-zero, count-change, count-le}
-
--- x is a member
-abbrev pub In : ℕ → List ℕ → Type 0
-In x [] = ⊥
-In x (y ∷ l) = (x ≡ y) ⊎ In x l
-
--- no member comes twice
-abbrev pub Distinct : List ℕ → Type 0
-Distinct [] = Unit {0}
-Distinct (x ∷ l) = (¬ In x l) × Distinct l
+use Rattle.counting.specs.Every.{In, Distinct}
 
 -- a member is found by the test
 pub in-among : (x : ℕ) (l : List ℕ) → In x l → among x l ≡ true

@@ -17,7 +17,7 @@ use Rattle.racks.specs.Numbers.{someAway}
 use Rattle.racks.specs.Legal.{Legal}
 use Rattle.racks.proofs.Away.{away-is}
 use Rattle.copies.specs.Copies.{next, onward, head, factor}
-use Rattle.copies.proofs.Members.{In}
+use Rattle.counting.specs.Every.{In}
 use Rattle.copies.proofs.Walks.{Path}
 use Rattle.copies.proofs.Chains.{chained, next-is, next-has}
 use Rattle.copies.proofs.Factors.{self-in, factor-path}

@@ -9,7 +9,7 @@ use Rattle.counting.specs.Tests.{pick}
 use Rattle.counting.specs.Lists.{Pair, last}
 use Rattle.racks.specs.Limits.{HAND}
 use Rattle.copies.specs.Copies.{shift, cycle}
-use Rattle.copies.proofs.Members.{In, Distinct}
+use Rattle.counting.specs.Every.{In, Distinct}
 use Rattle.copies.proofs.Walks.{Path}
 
 module _ {A : Type 0} where

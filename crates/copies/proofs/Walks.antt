@@ -12,7 +12,8 @@ use Rattle.counting.specs.Lists.{last}
 use Rattle.counting.proofs.Tests.{or-l, or-r, or-none}
 use Rattle.racks.specs.Limits.{FREE}
 use Rattle.copies.specs.Copies.{after}
-use Rattle.copies.proofs.Members.{In, Distinct, pigeon, last-in}
+use Rattle.counting.specs.Every.{In, Distinct}
+use Rattle.copies.proofs.Members.{pigeon, last-in}
 
 -- the walk from s ends before y
 abbrev pub Ends : ℕ → ℕ → Type 0

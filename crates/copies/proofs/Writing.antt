@@ -12,7 +12,7 @@ use Rattle.racks.specs.Limits.{FREE, HAND}
 use Rattle.copies.specs.Copies.{next, source, onward, shift, cycle, copies}
 use Rattle.copies.specs.Chains.{Chained}
 use Rattle.copies.specs.Writes.{putCopies, steps, Inside, First, Written}
-use Rattle.copies.proofs.Members.{In}
+use Rattle.counting.specs.Every.{In}
 use Rattle.copies.proofs.Walks.{Path}
 use Rattle.copies.proofs.Chains.{onward-low, onward-path, onward-ends, cycle-source, shift-ends}
 use Rattle.copies.proofs.Costs.{length-shift, copies-shift, copies-cycle}

@@ -1,3 +1,4 @@
 pub mod Copies
 pub mod Chains
 pub mod Writes
+pub mod Factors

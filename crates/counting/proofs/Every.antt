@@ -1,13 +1,11 @@
 -- Every member of a list meets P; every two members of a list, in their order, meet R. Assumes nothing.
 use mathlib.Core.Path.{_≡_, refl}
-use mathlib.Core.List.{List, [], _∷_, _++_}
+use mathlib.Core.List.{List, [], _++_}
 use Prim.Native.Nat.{ℕ, zero, suc}
 use lib.ListN.{take}
-
--- every member meets P
-pub data All {A : Type 0} (P : A → Type 0) : List A → Type 0 where
-  none : All P []
-  more : {x : A} {l : List A} → P x → All P l → All P (x ∷ l)
+use Rattle.counting.specs.Every.{All, Pairwise}
+use Rattle.counting.specs.Every.All.{none, more}
+use Rattle.counting.specs.Every.Pairwise.{end, link}
 
 module _ {A : Type 0} {P : A → Type 0} where
   pub all-append : {a b : List A} → All P a → All P b → All P (a ++ b)
@@ -31,11 +29,6 @@ module _ {A : Type 0} {P : A → Type 0} where
   pub all-none : {a : List A} → ((x : A) → P x → ⊥) → All P a → a ≡ []
   all-none h none = refl
   all-none h (more {x} p r) = absurd (h x p)
-
--- every member stands in R to each that comes after it
-pub data Pairwise {A : Type 0} (R : A → A → Type 0) : List A → Type 0 where
-  end : Pairwise R []
-  link : {x : A} {l : List A} → All (R x) l → Pairwise R l → Pairwise R (x ∷ l)
 
 module _ {A : Type 0} {R : A → A → Type 0} where
   pub pairwise-append : {a b : List A} → Pairwise R a → Pairwise R b → All (λ x. All (R x) b) a → Pairwise R (a ++ b)

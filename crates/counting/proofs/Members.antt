@@ -14,8 +14,9 @@ use Rattle.counting.specs.Tests.{_and_, _or_, pick}
 use Rattle.counting.specs.Count.{select}
 use Rattle.counting.specs.Lists.{among}
 use Rattle.counting.proofs.Tests.{by-test, or-l, or-r, or-none, and-off-l, and-off-r, and-true}
-use Rattle.counting.proofs.Every.{All, all-map, all-take}
-use Rattle.counting.proofs.Every.All.{more, none}
+use Rattle.counting.specs.Every.{All}
+use Rattle.counting.proofs.Every.{all-map, all-take}
+use Rattle.counting.specs.Every.All.{more, none}
 use Rattle.counting.proofs.Select.{select-none, all-select}
 
 -- x is none of the list

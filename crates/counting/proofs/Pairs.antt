@@ -6,7 +6,9 @@ use native.Mathlib.Omega.{arith}
 use lib.ListN.{length, take}
 use lib.Seq.{take-nil}
 use Rattle.counting.specs.Lists.{Pair, pairUp}
-use Rattle.counting.proofs.Every.{All, none, more, Pairwise, end, link}
+use Rattle.counting.specs.Every.{All, Pairwise}
+use Rattle.counting.specs.Every.All.{none, more}
+use Rattle.counting.specs.Every.Pairwise.{end, link}
 
 -- as many pairs as the shorter list has members
 pub length-pairUp : (a b : List ℕ) → length (pairUp a b) ≡ min (length a) (length b)

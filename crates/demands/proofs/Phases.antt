@@ -8,9 +8,10 @@ use lib.ListN.{length, getD, take, drop, take-append-drop}
 use Rattle.counting.specs.Lists.{Pair, join}
 use Rattle.counting.proofs.Count.{count-some}
 use Rattle.counting.proofs.Lists.{join-append}
-use Rattle.counting.proofs.Every.{All, all-map, all-both, Pairwise}
-use Rattle.counting.proofs.Every.All.{more, none}
-use Rattle.counting.proofs.Every.Pairwise.{end, link}
+use Rattle.counting.specs.Every.{All, Pairwise}
+use Rattle.counting.proofs.Every.{all-map, all-both}
+use Rattle.counting.specs.Every.All.{more, none}
+use Rattle.counting.specs.Every.Pairwise.{end, link}
 use Rattle.racks.specs.Racks.{Rack, slots}
 use Rattle.racks.specs.Table.{away, aways}
 use Rattle.racks.specs.Numbers.{someAway}
@@ -18,8 +19,8 @@ use Rattle.phases.specs.Plan.{plan}
 use Rattle.phases.proofs.Allowed.{Allowed, Apart}
 use Rattle.phases.proofs.Plans.{plan-allowed, plan-apart}
 use Rattle.phases.proofs.Possible.{plan-some}
-use Rattle.moves.specs.Moves.{Held, carriedPlaces, carried, moved}
-use Rattle.moves.proofs.Pairs.{Disjoint, free-disjoint}
+use Rattle.moves.specs.Moves.{Held, carriedPlaces, carried, moved, Disjoint}
+use Rattle.moves.proofs.Pairs.{free-disjoint}
 use Rattle.moves.proofs.Moved.{allowed-free}
 use Rattle.moves.specs.Phases.{phases}
 use Rattle.moves.proofs.Carry.{InTurn, pairs-in-turn, places-append, owes-carried}

@@ -16,7 +16,7 @@ use Rattle.counting.specs.Lists.{Pair}
 use Rattle.counting.specs.Checks.{first}
 use Rattle.counting.proofs.Tests.{by-test, off, no-way, and-true, and-off-r, not-off}
 use Rattle.counting.proofs.Count.{pigeonhole, count-all, count-some}
-use Rattle.counting.proofs.Every.All.{more, none}
+use Rattle.counting.specs.Every.All.{more, none}
 use Rattle.counting.proofs.Members.{among-none, among-last, besides-in, besides-out}
 use Rattle.racks.specs.Limits.{FREE}
 use Rattle.racks.specs.Racks.{Rack, slots}

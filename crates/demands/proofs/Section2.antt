@@ -11,10 +11,12 @@ use Rattle.racks.specs.Limits.{FREE, HAND}
 use Rattle.racks.specs.Table.{dest}
 use Rattle.copies.specs.Copies.{next, source, onward, head, factor, shift, cycle, copyList}
 use Rattle.copies.specs.Chains.{Chained}
-use Rattle.copies.proofs.Members.{In, last-in}
+use Rattle.counting.specs.Every.{In}
+use Rattle.copies.proofs.Members.{last-in}
 use Rattle.copies.proofs.Walks.{Path, Ends}
 use Rattle.copies.proofs.Chains.{next-is, source-next, onward-low, onward-path, onward-ends, head-low, head-cases, shift-ends, cycle-ends}
-use Rattle.copies.proofs.Factors.{Lowest, factors-lowest, factors-ascend, factors-once, factors-all, factors-slots}
+use Rattle.copies.specs.Factors.{Lowest}
+use Rattle.copies.proofs.Factors.{factors-lowest, factors-ascend, factors-once, factors-all, factors-slots}
 use Rattle.copies.proofs.Costs.{copies-shift, copies-cycle, cost-shift, cost-cycle, cost-settled, list-most}
 use Rattle.copies.proofs.Counted.{list-count}
 use Rattle.shuffle.proofs.Bytes.{brought-home}

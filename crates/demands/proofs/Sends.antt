@@ -13,8 +13,9 @@ use Rattle.counting.specs.Tests.{bit}
 use Rattle.counting.specs.Count.{select}
 use Rattle.counting.specs.Lists.{table, join, pairUp, matching}
 use Rattle.counting.proofs.Tests.{and-r, and-true, and-off-r}
-use Rattle.counting.proofs.Every.{All, all-map, all-take}
-use Rattle.counting.proofs.Every.All.{more, none}
+use Rattle.counting.specs.Every.{All}
+use Rattle.counting.proofs.Every.{all-map, all-take}
+use Rattle.counting.specs.Every.All.{more, none}
 use Rattle.counting.proofs.Select.{all-select, length-select}
 use Rattle.counting.proofs.Lists.{join-more}
 use Rattle.racks.specs.Racks.{Rack, slots, rackOf}

@@ -6,18 +6,16 @@ use mathlib.Core.List.{List, [], List·Permᴰ}
 use Prim.Native.Nat.{ℕ, _-_, _*_, _≤_, _<_, min}
 use lib.ListN.{length, getD, take}
 use Rattle.counting.specs.Lists.{Pair, join, matching}
-use Rattle.counting.proofs.Every.{All, Pairwise}
+use Rattle.counting.specs.Every.{All, Pairwise, In}
 use Rattle.racks.specs.Limits.{FREE}
 use Rattle.racks.specs.Racks.{Rack, slots, rackOf}
 use Rattle.racks.specs.Table.{dest, aways, owes}
 use Rattle.racks.specs.Answers.{answer, movesOf}
 use Rattle.phases.specs.Plan.{room, plan}
 use Rattle.moves.specs.Blocks.{block, blank}
-use Rattle.moves.specs.Moves.{Held, carried, between, moved}
+use Rattle.moves.specs.Moves.{Held, carried, between, moved, Disjoint}
 use Rattle.moves.specs.Phases.{phases, budgeted}
-use Rattle.moves.proofs.Pairs.{Disjoint}
 use Rattle.copies.specs.Copies.{factor, copyList}
-use Rattle.copies.proofs.Members.{In}
 use Rattle.shuffle.specs.Shuffle.{shuffled}
 use Rattle.runs.specs.Run.{ran}
 use Rattle.demands.specs.Figure1.{recv, dueTo, figure1, bySlot}

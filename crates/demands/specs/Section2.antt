@@ -6,14 +6,12 @@ use Prim.Native.Nat.{ℕ, _+_, _*_, _≤_, _<_}
 use lib.ListN.{length}
 use Rattle.counting.specs.Count.{count}
 use Rattle.counting.specs.Lists.{Pair, join, each, matching, last}
-use Rattle.counting.proofs.Every.{All, Pairwise}
+use Rattle.counting.specs.Every.{All, Pairwise, In, Distinct}
 use Rattle.racks.specs.Limits.{FREE, HAND}
 use Rattle.racks.specs.Table.{dest}
 use Rattle.moves.specs.Blocks.{block}
 use Rattle.copies.specs.Copies.{copies, factors, copyList}
-use Rattle.copies.proofs.Members.{In, Distinct}
-use Rattle.copies.proofs.Factors.{Before}
-use Rattle.copies.proofs.Counted.{unsettled, turning}
+use Rattle.copies.specs.Factors.{Before, unsettled, turning}
 use Rattle.shuffle.specs.Shuffle.{brought}
 
 -- slot x and the slots behind it: each slot's card goes to the next

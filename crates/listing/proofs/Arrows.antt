@@ -7,7 +7,7 @@ use native.Mathlib.Decide.{ℕ-discrete}
 use borrow.Author.Tests.{eq-eqb, ne-eqb}
 use lib.ListN.{length, getD, length-append}
 use Rattle.counting.specs.Lists.{Pair, join, each}
-use Rattle.counting.proofs.Every.All.{none, more}
+use Rattle.counting.specs.Every.All.{none, more}
 use Rattle.racks.specs.Limits.{HAND}
 use Rattle.moves.specs.Parts.{pairsIn, Slots, AllSlots}
 use Rattle.moves.proofs.Flat.{pairs-more, pairs-none}

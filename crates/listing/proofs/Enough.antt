@@ -9,8 +9,9 @@ use lib.ListN.{length, length-append}
 use Rattle.counting.specs.Lists.{join, table}
 use Rattle.counting.proofs.Tests.{by-test}
 use Rattle.counting.proofs.Lists.{join-more}
-use Rattle.counting.proofs.Every.{All, all-map}
-use Rattle.counting.proofs.Every.All.{none, more}
+use Rattle.counting.specs.Every.{All}
+use Rattle.counting.proofs.Every.{all-map}
+use Rattle.counting.specs.Every.All.{none, more}
 use Rattle.racks.specs.Racks.{Rack, slots}
 use Rattle.racks.specs.Table.{aways}
 use Rattle.racks.specs.Numbers.{someAway}

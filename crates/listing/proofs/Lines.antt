@@ -5,8 +5,8 @@ use Prim.Native.Nat.{ℕ, suc, _+_, _*_, _≤_, _<_}
 use native.Mathlib.Omega.{arith}
 use lib.ListN.{length, length-append}
 use Rattle.counting.specs.Lists.{Pair, join, each, table}
-use Rattle.counting.proofs.Every.{All}
-use Rattle.counting.proofs.Every.All.{none, more}
+use Rattle.counting.specs.Every.{All}
+use Rattle.counting.specs.Every.All.{none, more}
 use Rattle.racks.specs.declared.Tally.{Tally}
 use Rattle.moves.specs.Parts.{AllSlots}
 use Rattle.listing.specs.Text.{decimal}

@@ -7,8 +7,8 @@ use lib.ListN.{length, getD}
 use Rattle.counting.specs.Tests.{_and_}
 use Rattle.counting.specs.Checks.{Check, first, refusal, done}
 use Rattle.counting.proofs.Tests.{by-test}
-use Rattle.counting.proofs.Every.{All}
-use Rattle.counting.proofs.Every.All.{none, more}
+use Rattle.counting.specs.Every.{All}
+use Rattle.counting.specs.Every.All.{none, more}
 use mathlib.Core.Bool.{not}
 use Rattle.racks.specs.Racks.{slots}
 use Rattle.jobfile.specs.Number.{groups, number, numbers}

@@ -10,9 +10,10 @@ use Rattle.counting.specs.Tests.{bit}
 use Rattle.counting.specs.Count.{count}
 use Rattle.counting.specs.Lists.{Pair, matching}
 use Rattle.counting.proofs.Tests.{by-test, no-way, both, and-l, and-r}
-use Rattle.counting.proofs.Every.{All, all-map, all-both, Pairwise}
-use Rattle.counting.proofs.Every.All.{more, none}
-use Rattle.counting.proofs.Every.Pairwise.{end, link}
+use Rattle.counting.specs.Every.{All, Pairwise}
+use Rattle.counting.proofs.Every.{all-map, all-both}
+use Rattle.counting.specs.Every.All.{more, none}
+use Rattle.counting.specs.Every.Pairwise.{end, link}
 use Rattle.racks.specs.Limits.{FREE}
 use Rattle.racks.specs.Racks.{Rack, slots, rackOf}
 use Rattle.racks.specs.Table.{rackTo, aways, owes, names}

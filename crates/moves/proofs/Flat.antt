@@ -8,7 +8,7 @@ use native.Mathlib.Omega.{arith}
 use lib.ListN.{length, take, drop, getD}
 use lib.Seq.{sets, slice, slice-cons, length-slice, take-nil, take-all}
 use Rattle.counting.specs.Lists.{Pair, flat}
-use Rattle.counting.proofs.Every.All.{more}
+use Rattle.counting.specs.Every.All.{more}
 use Rattle.moves.specs.Parts.{unflat, pairsIn, Slots, AllSlots}
 use Rattle.counting.proofs.Stores.{length-flat, run-same}
 

@@ -14,7 +14,7 @@ use Rattle.counting.specs.Tests.{bit}
 use Rattle.counting.specs.Count.{count}
 use Rattle.counting.specs.Lists.{Pair}
 use Rattle.counting.proofs.Tests.{by-test, off, no-way, both, and-l, and-r, and-off-l, and-off-r}
-use Rattle.counting.proofs.Every.All.{more, none}
+use Rattle.counting.specs.Every.All.{more, none}
 use Rattle.counting.proofs.Members.{among-none, among-last, besides, besides-in, besides-out, besides-off}
 use Rattle.counting.proofs.Count.{count-cong, count-change, count-move}
 use Rattle.racks.specs.Limits.{FREE}

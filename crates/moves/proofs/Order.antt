@@ -6,13 +6,14 @@ use native.Mathlib.Decide.{ℕ-discrete}
 use lib.ListN.{length}
 use lib.Seq.{ext-getD}
 use Rattle.counting.specs.Lists.{Pair}
-use Rattle.counting.proofs.Every.{All, all-map, all-both, Pairwise}
-use Rattle.counting.proofs.Every.All.{more, none}
-use Rattle.counting.proofs.Every.Pairwise.{end, link}
+use Rattle.counting.specs.Every.{All, Pairwise}
+use Rattle.counting.proofs.Every.{all-map, all-both}
+use Rattle.counting.specs.Every.All.{more, none}
+use Rattle.counting.specs.Every.Pairwise.{end, link}
 use Rattle.racks.specs.Racks.{Rack, slots}
 use Rattle.phases.proofs.Allowed.{Allowed, Apart}
-use Rattle.moves.specs.Moves.{movedPlaces, movedCards, carriedPlaces, carriedCards, Held, carried}
-use Rattle.moves.proofs.Pairs.{Moved, Ends, Disjoint, disjoint-sym, free-ends, free-disjoint}
+use Rattle.moves.specs.Moves.{movedPlaces, movedCards, carriedPlaces, carriedCards, Held, carried, Disjoint}
+use Rattle.moves.proofs.Pairs.{Moved, Ends, disjoint-sym, free-ends, free-disjoint}
 use Rattle.moves.proofs.Moved.{allowed-free, length-moved, moved-places}
 use Rattle.moves.proofs.Blocks.{length-moved-cards, moved-cards, blocks-ext}
 

@@ -9,6 +9,7 @@ use Rattle.counting.proofs.Tests.{no-way}
 use Rattle.racks.specs.Racks.{Rack, slots}
 use Rattle.racks.specs.Table.{free}
 use Rattle.phases.proofs.Allowed.{Apart}
+use Rattle.moves.specs.Moves.{Disjoint}
 
 -- what slots hold before and after a move: the target has what the source had, the source has z, any other slot what it had
 pub record Moved {A : Type 0} (z : A) (m : Pair) (before after : ℕ → A) : Type 0 where
@@ -21,13 +22,6 @@ pub record Ends (S : ℕ) (m : Pair) : Type 0 where
   pub from-lt : m .0 < S
   pub to-lt : m .1 < S
   pub differ : m .0 ≢ m .1
-
--- no end of pair n is an end of pair m
-pub record Disjoint (m n : Pair) : Type 0 where
-  pub from-from : n .0 ≢ m .0
-  pub from-to : n .0 ≢ m .1
-  pub to-from : n .1 ≢ m .0
-  pub to-to : n .1 ≢ m .1
 
 -- then no end of m is one of n
 pub disjoint-sym : {m n : Pair} → Disjoint m n → Disjoint n m

@@ -11,8 +11,8 @@ use Rattle.counting.proofs.Tests.{by-test, no-way}
 use Rattle.counting.proofs.Count.{count-zero, count-pos}
 use Rattle.counting.proofs.Some.{some-found, some-off}
 use Rattle.counting.proofs.Lists.{take-append}
-use Rattle.counting.proofs.Every.{All, Pairwise}
-use Rattle.counting.proofs.Every.All.{more, none}
+use Rattle.counting.specs.Every.{All, Pairwise}
+use Rattle.counting.specs.Every.All.{more, none}
 use Rattle.racks.specs.Racks.{Rack, slots}
 use Rattle.racks.specs.Table.{away, aways}
 use Rattle.racks.specs.Numbers.{someAway}

@@ -11,8 +11,9 @@ use Rattle.counting.specs.Count.{select}
 use Rattle.counting.specs.Lists.{Pair, table, join, pairUp, among}
 use Rattle.counting.specs.Tests.{_or_}
 use Rattle.counting.proofs.Tests.{by-test, or-none, or-false}
-use Rattle.counting.proofs.Every.{All, all-map}
-use Rattle.counting.proofs.Every.All.{more, none}
+use Rattle.counting.specs.Every.{All}
+use Rattle.counting.proofs.Every.{all-map}
+use Rattle.counting.specs.Every.All.{more, none}
 use Rattle.counting.proofs.Select.{select-cong}
 use Rattle.counting.proofs.Lists.{join-more}
 use Rattle.counting.proofs.Members.{among-none, among-append, besides, besides-out, besides-off, besides-cong, besides-more, select-drop}

@@ -5,7 +5,7 @@ use lib.Seq.{slice}
 use Rattle.counting.specs.Tests.{pick}
 use Rattle.counting.specs.Lists.{Pair}
 use Rattle.counting.specs.Checks.{first, done}
-use Rattle.counting.proofs.Every.{All}
+use Rattle.counting.specs.Every.{All}
 use Rattle.racks.specs.Job.{racksOf}
 use Rattle.racks.specs.declared.Job.{Job}
 use Rattle.racks.specs.declared.Answer.{Answer}

@@ -12,7 +12,8 @@ use borrow.Author.Tests.{eqb-true}
 use Rattle.counting.specs.Count.{sum, count, select}
 use Rattle.counting.specs.Lists.{table, join, each, pairUp}
 use Rattle.counting.proofs.Tests.{off, not-off-is}
-use Rattle.counting.proofs.Every.{All, all-take, Pairwise, pairwise-take, pairwise-map}
+use Rattle.counting.specs.Every.{All, Pairwise}
+use Rattle.counting.proofs.Every.{all-take, pairwise-take, pairwise-map}
 use Rattle.counting.proofs.Select.{Hit, select-none, length-select, all-select, select-ascends, select-split, select-short, sum-cong}
 use Rattle.counting.proofs.Lists.{take-append, take-min, join-more, length-join, join-select}
 use Rattle.counting.proofs.Pairs.{length-pairUp, pairUp-take}

@@ -7,7 +7,8 @@ use native.Mathlib.Omega.{arith}
 use lib.ListN.{length}
 use Rattle.counting.specs.Lists.{Pair}
 use Rattle.counting.proofs.Count.{count-pos, count-le}
-use Rattle.counting.proofs.Every.{All, all-map, Pairwise, pairwise-map}
+use Rattle.counting.specs.Every.{All, Pairwise}
+use Rattle.counting.proofs.Every.{all-map, pairwise-map}
 use Rattle.counting.proofs.Select.{Hit, all-select, select-ascends, sum-mono, sum-suc, apart-few}
 use Rattle.counting.proofs.Lists.{length-join, all-join, pairwise-join}
 use Rattle.counting.proofs.Pairs.{all-pairUp, pairwise-pairUp}

@@ -9,8 +9,8 @@ use lib.Seq.{take-all, length-sets}
 use borrow.Author.Tests.{lt-ltb}
 use Rattle.counting.specs.Lists.{Pair, join, matching}
 use Rattle.counting.proofs.Tests.{by-test}
-use Rattle.counting.proofs.Every.{All}
-use Rattle.counting.proofs.Every.All.{more, none}
+use Rattle.counting.specs.Every.{All}
+use Rattle.counting.specs.Every.All.{more, none}
 use Rattle.counting.proofs.Stores.{length-flat}
 use Rattle.racks.specs.Racks.{Rack, slots}
 use Rattle.racks.specs.Table.{aways}

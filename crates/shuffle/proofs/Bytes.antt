@@ -10,8 +10,8 @@ use lib.ListN.{length}
 use borrow.Author.Tests.{eq-eqb, ne-eqb}
 use Rattle.counting.specs.Tests.{pick}
 use Rattle.counting.specs.Lists.{Pair}
-use Rattle.counting.proofs.Every.{All}
-use Rattle.counting.proofs.Every.All.{more}
+use Rattle.counting.specs.Every.{All}
+use Rattle.counting.specs.Every.All.{more}
 use Rattle.racks.specs.Limits.{FREE, HAND}
 use Rattle.racks.specs.Table.{dest}
 use Rattle.moves.specs.Blocks.{block, putBlock, blank}

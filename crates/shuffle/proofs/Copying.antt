@@ -10,8 +10,8 @@ use lib.ListN.{length, getD, take, replicate, List·getD-append}
 use lib.Seq.{sets, sets-eq}
 use borrow.Author.Tests.{eq-eqb, ne-eqb}
 use Rattle.counting.specs.Lists.{Pair, table, flat}
-use Rattle.counting.proofs.Every.{All}
-use Rattle.counting.proofs.Every.All.{more}
+use Rattle.counting.specs.Every.{All}
+use Rattle.counting.specs.Every.All.{more}
 use Rattle.counting.proofs.Lists.{table-is}
 use Rattle.racks.specs.Limits.{HAND}
 use Rattle.moves.specs.Blocks.{block, putBlock, blank}
