@@ -6,6 +6,7 @@ use native.Mathlib.Omega.{arith}
 use denote.Ref.{RefT, now}
 use Rattle.racks.specs.Answers.{Listed, listedOf}
 use Rattle.racks.specs.declared.Answer.{Answer}
+use Rattle.racks.specs.declared.Answer as racks
 use Rattle.moves.specs.Moves.{Outcome}
 use Rattle.moves.specs.Parts.{outcomeOf}
 use Rattle.jobfile.specs.Number.{Got, number}
@@ -19,9 +20,12 @@ use Rattle.jobreader.specs.Reading.{placeAfter, Stepped, Next, JobRead}
 use Rattle.jobreader.specs.declared.Reader.{Reader}
 use Rattle.jobreader.specs.declared.Step.{Step}
 use Rattle.jobreader.specs.declared.JobFile.{JobFile}
-use Rattle.listing.specs.Listing.{Printed}
-use Rattle.listing.specs.Writing.{printedOf}
+use Rattle.listing.specs.Listing.{Printed, printedOf}
 use Rattle.listing.specs.declared.TextAnswer.{TextAnswer}
+use Rattle.seineflute.specs.Flat.{answerOf, fileOf, textOf}
+use Rattle.seineflute.specs.declared.Answer as c
+use Rattle.seineflute.specs.declared.FileAnswer as c-file
+use Rattle.seineflute.specs.declared.ListingAnswer as c-text
 use Rattle.demands.specs.OneOutcome.{One, OneSeen, jobSeen, OneOutcome}
 
 -- the law: what is equal to one outcome, and can be read back from it, is one
@@ -52,6 +56,55 @@ unfolding printedOf
 texted z =
     one (λ (x : TextAnswer × List ℕ). printedOf (x .0) (x .1))
     (λ (o : Printed). (record { answer = o .answer; size = o .size }, o .lent)) (λ x. refl) z
+
+-- the same, of the numbers that C is given: an answer is read back from them, and they from it
+abbrev plain : racks.Answer → c.Answer
+plain a = record { number = a .number; phases = a .tally .phases; moves = a .tally .moves; copies = a .tally .copies }
+
+c-same : (z : racks.Answer) → One (λ (r : c.Answer). answerOf r ≡ z)
+c-same z = one answerOf plain (λ x. refl) z
+
+c-listed : (z : Listed) → One (λ ((r, lent) : c.Answer × List ℕ). listedOf (answerOf r) lent ≡ z)
+c-listed z = one (λ (x : c.Answer × List ℕ). listedOf (answerOf (x .0)) (x .1)) (λ (o : Listed). (plain (o .answer), o .lent)) (λ x. refl) z
+
+c-carded : (z : Outcome) → One (λ ((r, places, cards) : c.Answer × List ℕ × List ℕ). outcomeOf (answerOf r) places cards ≡ z)
+c-carded z =
+    one (λ (x : c.Answer × List ℕ × List ℕ). outcomeOf (answerOf (x .0)) (x .1) (x .2))
+    (λ (o : Outcome). (plain (o .answer), o .held .places, o .held .cards)) (λ x. refl) z
+
+c-filed : (file : List ℕ) (z : Read) → One (λ ((r, caps, places) : c-file.FileAnswer × List ℕ × List ℕ). readOf (fileOf r) caps places file ≡ z)
+unfolding readOf
+c-filed file z =
+    one (λ (x : c-file.FileAnswer × List ℕ × List ℕ). readOf (fileOf (x .0)) (x .1) (x .2) file)
+    (λ (o : Read). (
+      record {
+        number = o .answer .number;
+        phases = o .answer .tally .phases;
+        moves = o .answer .tally .moves;
+        copies = o .answer .tally .copies;
+        racks = o .racks;
+        bytes = o .bytes;
+        slots = o .slots;
+        place = o .place;
+      },
+      o .caps,
+      o .places,
+    )) (λ x. refl) z
+
+c-texted : (z : Printed) → One (λ ((r, lent) : c-text.ListingAnswer × List ℕ). printedOf (textOf r) lent ≡ z)
+unfolding printedOf
+c-texted z =
+    one (λ (x : c-text.ListingAnswer × List ℕ). printedOf (textOf (x .0)) (x .1))
+    (λ (o : Printed). (
+      record {
+        number = o .answer .number;
+        phases = o .answer .tally .phases;
+        moves = o .answer .tally .moves;
+        copies = o .answer .tally .copies;
+        size = o .size;
+      },
+      o .lent,
+    )) (λ x. refl) z
 
 -- a number read: a value comes with a place behind it, so it is no refusal
 module _ (file : List ℕ) (at : ℕ) where
@@ -121,4 +174,14 @@ one-outcome =
       tally-of-copies = λ copies. same _;
       answer-of = λ n. same _;
       answer-done = λ tally. same _;
+      c-check-table = λ caps places. c-same _;
+      c-slot-question = λ caps places g. same _;
+      c-phase-plan = λ caps places lent. c-listed _;
+      c-one-move = λ caps b places cards from to. c-carded _;
+      c-budgeted-moves = λ caps b places cards k. c-carded _;
+      c-copy-list = λ caps places lent. c-listed _;
+      c-shuffle-cards = λ caps b places cards. c-carded _;
+      c-whole-run = λ caps b places cards. c-carded _;
+      c-read-file = λ file caps places. c-filed file _;
+      c-list-job = λ file lent. c-texted _;
     }

@@ -28,9 +28,13 @@ use Rattle.jobreader.specs.Reading.{Stepped, Next, JobRead}
 use Rattle.jobreader.specs.declared.Reader.{Reader}
 use Rattle.jobreader.specs.declared.Step.{Step}
 use Rattle.jobreader.specs.declared.JobFile.{JobFile}
-use Rattle.listing.specs.Listing.{printed}
-use Rattle.listing.specs.Writing.{printedOf}
+use Rattle.listing.specs.Listing.{printed, printedOf}
 use Rattle.listing.specs.declared.TextAnswer.{TextAnswer}
+use Rattle.seineflute.specs.Flat.{answerOf, slotNumbers, fileOf, textOf}
+use Rattle.seineflute.specs.declared.Answer as c
+use Rattle.seineflute.specs.declared.SlotAnswer as c-slot
+use Rattle.seineflute.specs.declared.FileAnswer as c-file
+use Rattle.seineflute.specs.declared.ListingAnswer as c-text
 
 -- any two that are allowed are equal
 abbrev pub One : {A : Type 0} → (A → Type 0) → Type 0
@@ -74,3 +78,21 @@ pub record OneOutcome : Type 0 where
   pub tally-of-copies : (copies : ℕ) → One (λ (r : Tally). r ≡ copiesOf copies)
   pub answer-of : (n : ℕ) → One (λ (r : Answer). r ≡ answer n noCounts)
   pub answer-done : (tally : Tally) → One (λ (r : Answer). r ≡ answer 0 tally)
+  -- the calls from C: the same, of the numbers that C is given
+  pub c-check-table : (caps places : List ℕ) → One (λ (r : c.Answer). answerOf r ≡ checked (ofCaps caps) places)
+  pub c-slot-question : (caps places : List ℕ) (g : ℕ) → One (λ (r : c-slot.SlotAnswer). r ≡ slotNumbers (asked (ofCaps caps) places g))
+  pub c-phase-plan : (caps places lent : List ℕ)
+      → One (λ ((r, lent′) : c.Answer × List ℕ). listedOf (answerOf r) lent′ ≡ planned (ofCaps caps) places lent)
+  pub c-one-move : (caps : List ℕ) (b : ℕ) (places cards : List ℕ) (from to : ℕ)
+      → One (λ ((r, places′, cards′) : c.Answer × List ℕ × List ℕ). outcomeOf (answerOf r) places′ cards′ ≡ moved (ofCaps caps) b (held places cards) (from, to))
+  pub c-budgeted-moves : (caps : List ℕ) (b : ℕ) (places cards : List ℕ) (k : ℕ)
+      → One (λ ((r, places′, cards′) : c.Answer × List ℕ × List ℕ). outcomeOf (answerOf r) places′ cards′ ≡ budgeted (ofCaps caps) b (held places cards) k)
+  pub c-copy-list : (caps places lent : List ℕ)
+      → One (λ ((r, lent′) : c.Answer × List ℕ). listedOf (answerOf r) lent′ ≡ copied (ofCaps caps) places lent)
+  pub c-shuffle-cards : (caps : List ℕ) (b : ℕ) (places cards : List ℕ)
+      → One (λ ((r, places′, cards′) : c.Answer × List ℕ × List ℕ). outcomeOf (answerOf r) places′ cards′ ≡ shuffled (ofCaps caps) b (held places cards))
+  pub c-whole-run : (caps : List ℕ) (b : ℕ) (places cards : List ℕ)
+      → One (λ ((r, places′, cards′) : c.Answer × List ℕ × List ℕ). outcomeOf (answerOf r) places′ cards′ ≡ ran (ofCaps caps) b (held places cards))
+  pub c-read-file : (file caps places : List ℕ)
+      → One (λ ((r, caps′, places′) : c-file.FileAnswer × List ℕ × List ℕ). readOf (fileOf r) caps′ places′ file ≡ read file caps places)
+  pub c-list-job : (file lent : List ℕ) → One (λ ((r, lent′) : c-text.ListingAnswer × List ℕ). printedOf (textOf r) lent′ ≡ printed file lent)

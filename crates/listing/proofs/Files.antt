@@ -28,8 +28,8 @@ use Rattle.jobfile.specs.Answers.{cardsOf, doneFile, fileAnswer}
 use Rattle.jobfile.specs.Parts.{Parsed}
 use Rattle.jobfile.specs.declared.FileAnswer.{FileAnswer}
 use Rattle.jobfile.proofs.Legal.{file-legal, file-small}
-use Rattle.listing.specs.Listing.{FILE, ENOUGH, refusedLine, programChecks, fileHeld, runText, listing, handedOver, Printed, printed}
-use Rattle.listing.specs.Writing.{Room, printedOf}
+use Rattle.listing.specs.Listing.{FILE, ENOUGH, refusedLine, programChecks, fileHeld, runText, listing, handedOver, Printed, printedOf, printed}
+use Rattle.listing.specs.Writing.{Room}
 use Rattle.listing.specs.declared.TextAnswer.{TextAnswer}
 use Rattle.listing.proofs.Lines.{refused-small}
 use Rattle.listing.proofs.Refusals.{number-most}
@@ -130,9 +130,11 @@ module _ (file : List ℕ) where
       unfolding cardsOf fileCards
       cards-are = rw (z, ap (λ (x : FileAnswer). x .place) done-is)
 
+      -- which passes 1 to 6
       pub job-legal : first (cardChecks (ofCaps (take (found .racks) caps)) (found .bytes) (take (found .slots) places) (cardsOf found file)) ≡ 0
       job-legal = rw (cards-are, caps-are, bytes-are, p .places-are z) (file-legal file no-check)
 
+      -- with no more card bytes than the file has
       pub job-small : length (cardsOf found file) ≤ FILE
       unfolding fileCards
       job-small = omega (arith, ap length cards-are, length-drop (readEntries file .place) file)
@@ -144,14 +146,18 @@ module _ (file : List ℕ) where
 
 -- the job of capacities whose table and cards are not refused
 module _ (caps : List ℕ) (job : Job) (is : job ≡ jobOf (ofCaps caps)) (b : ℕ) (places cards : List ℕ) (z : first (cardChecks (ofCaps caps) b places cards) ≡ 0) where
+  -- it passes by the job too
   pub job-accepted : Accepted job b places cards
   job-accepted = accepted job b places cards (of-cards caps job is b places cards ∙ z) (of-sound caps job is)
 
+  -- the job's racks are those of the capacities
   pub job-racks : racksOf job ≡ ofCaps caps
   job-racks = of-racks caps job is (sound-refused job (job-accepted .sound))
 
+  -- each has a spare
   pub job-spared : Spared (racksOf job)
   job-spared = subst Spared (sym job-racks) (spared-caps caps)
 
+  -- a card has at most 256 bytes
   pub job-bytes : b ≤ 256
   job-bytes = bytes-small b (job-accepted .bytes)

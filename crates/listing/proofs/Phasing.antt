@@ -109,13 +109,15 @@ module _ {racks : List Rack} {n : ℕ} {table : List ℕ} (f : Fixed racks n tab
       pub made-left : made ≤ left
       made-left = omega (arith, whole, plan-aways racks (h .places), r .enough)
 
-      -- the list has the pairs that were carried
+      -- the list has room for the plan's pairs
       pairs-few : 2 * length (plan racks (h .places)) ≤ length pairs
       pairs-few = omega (arith, plan-aways racks (h .places), aways-few racks (h .places), f .small, r .turn .room)
 
+      -- and is long enough for them
       pub pairs-long : 2 * made ≤ length pairs′
       pairs-long = rw (p .list, length-sets) (omega (arith, whole, pairs-few))
 
+      -- they are the plan's
       pairs-carried : pairsIn pairs′ 0 (2 * made) ≡ plan racks (h .places)
       pairs-carried =
           let e : queuedPlan n rows (h .places) ≡ plan racks (h .places) = ready-count racks (h .places) rows (r .turn .ready l) n (f .racks-are) in
@@ -165,9 +167,11 @@ module _ {job : Job} {b : ℕ} {rows : Rows} {h : Held} {table pairs : List ℕ}
   pub all-away : aways (racksOf job) (h .places) ≤ job .slots
   all-away = omega (arith, aways-few (racksOf job) (h .places), sound-slots job (g .sound))
 
+  -- the table is legal
   pub legal-first : Legal (racksOf job) (h .places)
   legal-first = turn-first g 0 .legal
 
+  -- nothing is made or written yet
   pub lined-first : (out : List ℕ) → Lined (racksOf job) b (job .slots) h rows h pairs (job .slots) out out 0 0
   lined-first out =
       record {

@@ -33,14 +33,15 @@ use Rattle.shuffle.specs.Hands.{Shuffled}
 use Rattle.runs.specs.Run.{gathered, counts}
 use Rattle.runs.specs.Gathered.{Ran}
 use Rattle.runs.proofs.Ending.{ends-chained, ends-long, ends-ran}
-use Rattle.listing.specs.Listing.{phaseLines, copiesLine, cardsLine, endLine, runText, handedOver}
-use Rattle.listing.specs.Writing.{Room, Wrote, PhasesPut, printedOf}
+use Rattle.listing.specs.Listing.{phaseLines, copiesLine, cardsLine, endLine, runText, printedOf, handedOver}
+use Rattle.listing.specs.Writing.{Room, Wrote, PhasesPut}
 use Rattle.listing.specs.declared.parts.phasing.Phased.{Phased}
 use Rattle.listing.proofs.Writing.{room-first, room-next, wrote-then}
 use Rattle.listing.proofs.Enough.{settled-long}
 
 -- the copy list in the library's own array
 module _ {places list after : List ℕ} {count : ℕ} (ok : Chained places) (w : AllWritten places list count after) (long : length list ≡ 12288) where
+  -- it keeps its length
   pub copies-array : length after ≡ 12288
   copies-array = ap length (w .list-is) ∙ length-put-copies list 0 (copyList places) ∙ long
 
@@ -62,6 +63,7 @@ pub record Runs (racks : List Rack) (b : ℕ) (h : Held) (out : List ℕ) : Type
   pub long : length (h .cards) ≡ slots racks * b
   pub room : Room (runText racks b h) 0 out
 
+-- by the job
 pub runs-first : (job : Job) (b : ℕ) (h : Held) (out : List ℕ) → Sound job → Spared (racksOf job) → first (tableChecks (racksOf job) (h .places)) ≡ 0
     → length (h .cards) ≡ slots (racksOf job) * b → Room (runText (racksOf job) b h) 0 out → Runs (racksOf job) b h out
 runs-first job b h out sound spared z long room = record { legal = legal-table (racksOf job) (h .places) z; spared = spared; small = sound .small; long = long; room = room }
@@ -96,6 +98,7 @@ module _ {racks : List Rack} {b : ℕ} {h : Held} {out : List ℕ} (r : Runs rac
     pub put-chained : Chained (h₁ .places)
     put-chained = ends-chained racks b h (r .legal) (r .spared) (r .small) (r .long) h₁ (m .tally) (p .made)
 
+    -- with cards for all slots
     pub put-long : length (h₁ .cards) ≡ length (h₁ .places) * b
     put-long = ends-long racks b h (r .legal) (r .spared) (r .small) (r .long) h₁ (m .tally) (p .made)
 
@@ -118,6 +121,7 @@ module _ {racks : List Rack} {b : ℕ} {h : Held} {out : List ℕ} (r : Runs rac
       unfolding settledHeld
       places-long = ap (λ (x : Held). length (x .places)) (ended .held-is) ∙ length-table (slots racks) _
 
+      -- the cards at the end are B bytes for each slot
       pub last-long : length cards′ ≡ length places′ * b
       last-long =
           ap (λ (x : Held). length (x .cards)) (ended .held-is) ∙ settled-long racks b h (r .legal) (r .spared) (r .small) (r .long) ∙ ap (λ (n : ℕ). n * b) (sym places-long)

@@ -19,6 +19,7 @@ use Rattle.copies.specs.Copies.{copyList}
 use Rattle.shuffle.specs.Shuffle.{settledHeld}
 use Rattle.runs.specs.Run.{gathered, counts}
 use Rattle.jobfile.specs.File.{fileRacks, fileBytes, filePlaces, fileCards, fileChecks}
+use Rattle.listing.specs.declared.TextAnswer.{TextAnswer}
 use Rattle.listing.specs.Text.{text, decimal, hex}
 
 -- the most bytes of a file that the program takes
@@ -92,6 +93,10 @@ pub record Printed : Type 0 where
   pub answer : Answer
   pub size : ℕ
   pub lent : List ℕ
+
+-- what the call gives, and the buffer that it leaves
+unfoldable pub printedOf : TextAnswer → List ℕ → Printed
+printedOf r lent = record { answer = r .answer; size = r .size; lent = lent }
 
 -- a text put into a lent buffer; 13 where that is too short for it
 unfoldable pub handedOver : List ℕ → List ℕ → Printed

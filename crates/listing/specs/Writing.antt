@@ -10,8 +10,7 @@ use Rattle.moves.specs.Moves.{Held}
 use Rattle.moves.specs.Phases.{phases}
 use Rattle.runs.specs.Gathered.{PhasesMade}
 use Rattle.listing.specs.Text.{text, decimal}
-use Rattle.listing.specs.Listing.{arrow, phaseLines, Printed}
-use Rattle.listing.specs.declared.TextAnswer.{TextAnswer}
+use Rattle.listing.specs.Listing.{arrow, phaseLines}
 use Rattle.listing.specs.declared.parts.phasing.Phased.{Phased}
 
 -- the words fit into the buffer from `at` on
@@ -31,7 +30,3 @@ phaseLine k pairs = text "phase " ++ decimal k ++ text ":" ++ join (each arrow p
 pub record PhasesPut (racks : List Rack) (b : ℕ) (h h′ : Held) (before after : List ℕ) (r : Phased) : Type 0 where
   pub made : PhasesMade racks b h h′ (r .tally)
   pub wrote : Wrote (phaseLines 1 (phases racks (h .places))) before 0 after (r .place)
-
--- the outcome that an answer and the buffer at exit are
-unfoldable pub printedOf : TextAnswer → List ℕ → Printed
-printedOf r lent = record { answer = r .answer; size = r .size; lent = lent }

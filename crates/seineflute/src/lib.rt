@@ -14,8 +14,7 @@ ghost use Rattle.shuffle.specs.Shuffle.{shuffled};
 ghost use Rattle.runs.specs.Run.{ran};
 ghost use Rattle.jobfile.specs.File.{read};
 ghost use Rattle.jobfile.specs.Answers.{readOf};
-ghost use Rattle.listing.specs.Listing.{printed};
-ghost use Rattle.listing.specs.Writing.{printedOf};
+ghost use Rattle.listing.specs.Listing.{printed, printedOf};
 ghost use Rattle.seineflute.specs.Flat.{answerOf, slotNumbers, fileOf, textOf};
 
 pub mod parts;
