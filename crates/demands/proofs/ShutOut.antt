@@ -1,14 +1,12 @@
 -- Wrong movers are shut out. Assumes nothing.
 use mathlib.Core.Path.{_≡_, refl, ap, sym, _∙_}
-use mathlib.Core.Logic.{_≢_, inl, inr}
+use mathlib.Core.Logic.{_≢_}
 use mathlib.Core.List.{List, [], _∷_}
-use Prim.Native.Nat.{ℕ, zero, suc, _+_, _*_, _≤_}
+use Prim.Native.Nat.{ℕ, zero, suc, _+_}
 use native.Mathlib.Omega.{arith}
-use native.Mathlib.Decide.{ℕ-discrete}
 use lib.ListN.{length, getD, replicate}
 use Rattle.counting.specs.Lists.{Pair}
 use Rattle.counting.specs.Checks.{first}
-use Rattle.counting.proofs.Tests.{off}
 use Rattle.counting.proofs.Select.{length-select}
 use Rattle.racks.specs.Racks.{ofCaps, slots}
 use Rattle.racks.specs.Table.{aways}
@@ -18,8 +16,7 @@ use Rattle.racks.specs.Answers.{Listed}
 use Rattle.racks.specs.declared.Tally.{Tally}
 use Rattle.racks.specs.declared.Answer.{Answer}
 use Rattle.moves.specs.Moves.{Held, Outcome}
-use Rattle.racks.proofs.Caps.{checks-0, slots-small}
-use Rattle.racks.proofs.LegalTable.{legal, spared-caps}
+use Rattle.racks.proofs.LegalTable.{spared-caps}
 use Rattle.moves.specs.Phases.{phases, budgeted}
 use Rattle.moves.proofs.Phases.{budget-aways}
 use Rattle.moves.proofs.FirstFit.{first-fit}
@@ -27,13 +24,10 @@ use Rattle.copies.specs.Copies.{copyList}
 use Rattle.runs.specs.Run.{gathered, counts, ran}
 use Rattle.runs.proofs.WholeRun.{run-moves, run-phases, run-copies}
 use Rattle.listing.specs.Listing.{listing}
-use Rattle.demands.specs.Rows.{None}
-use Rattle.demands.specs.Conditions.{cardRows}
 use Rattle.demands.specs.ShutOut.{Runner, MeetsRun, Budgeter, MeetsBudget, Planner, MeetsPlan, Phaser, MeetsPhases, ShutOutRuns, ShutOutBudgets, ShutOutPlans, ShutOutPhases, idleText, ShutOut}
 use Rattle.demands.specs.Paper.{caps1, held1, file1, paper}
-use Rattle.demands.proofs.Says.{says-1, says-3}
-use Rattle.demands.proofs.CallRows.{given-table-only, given-cards-only}
 use Rattle.demands.proofs.CaseOne.{caps10, held10, after1, after10, refused10, planned1, cases}
+use Rattle.demands.proofs.Acceptance.{accepted-legal, accepted-small, accepted-long}
 
 -- the number, the moves and the first entry of an outcome
 abbrev numberOf : Outcome → ℕ
@@ -47,25 +41,8 @@ entry0 h = getD (h .places) 0 0
 
 -- what is known where no check of the table and the cards applies
 module _ (caps : List ℕ) (b : ℕ) (h : Held) (z : first (cardChecks (ofCaps caps) b (h .places) (h .cards)) ≡ 0) where
-  none : None (cardRows (ofCaps caps) b (h .places) (h .cards))
-  none = given-cards-only (ofCaps caps) (h .places) b (h .cards) .done .0 z
-
   is-legal : Legal (ofCaps caps) (h .places)
-  unfolding None
-  is-legal =
-      let n = none in
-      legal (ofCaps caps) (h .places)
-      (given-table-only (ofCaps caps) (h .places) .done .1 (n .0, (n .1 .1 .0, ((λ w. n .1 .1 .1 .0 (inl w)), (n .1 .1 .1 .1 .0, (n .1 .1 .1 .1 .1 .0, tt))))))
-
-  is-small : slots (ofCaps caps) ≤ 4096
-  unfolding None
-  is-small =
-      let n = none in
-      slots-small caps (sym (checks-0 (ofCaps caps) (off (λ t. n .0 (says-1 _ .0 t))) (off (λ t. n .1 .1 .0 (says-3 (ofCaps caps) .0 t)))))
-
-  is-long : length (h .cards) ≡ slots (ofCaps caps) * b
-  unfolding None
-  is-long = let n = none in elim (ℕ-discrete (length (h .cards)) (slots (ofCaps caps) * b)) [ yes e ↦ e | no f ↦ absurd (n .1 .1 .1 .0 (inr f)) ]
+  is-legal = accepted-legal (ofCaps caps) b (h .places) (h .cards) z
 
   -- the counts of a whole run
   run-counts : ran (ofCaps caps) b h .answer .tally
@@ -76,9 +53,9 @@ module _ (caps : List ℕ) (b : ℕ) (h : Held) (z : first (cardChecks (ofCaps c
       go : counts (ofCaps caps) b h ≡ record { phases = length (phases (ofCaps caps) (h .places)); moves = aways (ofCaps caps) (h .places); copies = length (copyList (gathered (ofCaps caps) b h .places)) }
       go =
           let s = spared-caps caps in
-          let p = run-phases (ofCaps caps) b h is-legal s is-small is-long in
-          let q = run-moves (ofCaps caps) b h is-legal s is-small is-long in
-          let r = run-copies (ofCaps caps) b h is-legal s is-small is-long in
+          let p = run-phases (ofCaps caps) b h is-legal s (accepted-small caps b (h .places) (h .cards) z) (accepted-long (ofCaps caps) b (h .places) (h .cards) z) in
+          let q = run-moves (ofCaps caps) b h is-legal s (accepted-small caps b (h .places) (h .cards) z) (accepted-long (ofCaps caps) b (h .places) (h .cards) z) in
+          let r = run-copies (ofCaps caps) b h is-legal s (accepted-small caps b (h .places) (h .cards) z) (accepted-long (ofCaps caps) b (h .places) (h .cards) z) in
           λ i. record { phases = p i; moves = q i; copies = r i }
 
   -- the moves of a budget

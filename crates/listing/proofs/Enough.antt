@@ -12,6 +12,7 @@ use Rattle.counting.proofs.Lists.{join-more}
 use Rattle.counting.specs.Every.{All}
 use Rattle.counting.proofs.Every.{all-map}
 use Rattle.counting.specs.Every.All.{none, more}
+use Rattle.racks.proofs.Away.{aways-few}
 use Rattle.racks.specs.Racks.{Rack, slots}
 use Rattle.racks.specs.Table.{aways}
 use Rattle.racks.specs.Numbers.{someAway}
@@ -23,8 +24,7 @@ use Rattle.moves.specs.Moves.{Held, carriedPlaces}
 use Rattle.moves.specs.Phases.{phasesFrom, phases}
 use Rattle.moves.specs.Parts.{AllSlots}
 use Rattle.moves.proofs.Blocks.{below, length-blank}
-use Rattle.moves.proofs.Phases.{phases-moves, phases-pairs, phases-legal}
-use Rattle.moves.proofs.Carry.{length-carried-cards}
+use Rattle.moves.proofs.Phases.{phases-moves, phases-pairs}
 use Rattle.moves.proofs.FirstFit.{first-fit}
 use Rattle.copies.specs.Copies.{copyList}
 use Rattle.copies.specs.Chains.{Chained}
@@ -38,7 +38,7 @@ use Rattle.runs.specs.Run.{gathered, counts}
 use Rattle.runs.proofs.Rounds.{all-counted}
 use Rattle.listing.specs.Listing.{FILE, ENOUGH, endLine, runText}
 use Rattle.listing.proofs.Lines.{phases-small, copies-small, length-cards-whole, end-small}
-use Rattle.listing.proofs.Phasing.{aways-few}
+use Rattle.runs.proofs.Gathering.{legal-gathered, long-gathered}
 
 -- no more phases than fuel
 phases-short : (n : ℕ) (racks : List Rack) (places : List ℕ) → length (phasesFrom n racks places) ≤ n
@@ -76,13 +76,9 @@ length-blocks b (suc s) f h =
 
 -- a run of a legal job
 module _ (racks : List Rack) (b : ℕ) (h : Held) (legal : Legal racks (h .places)) (spared : Spared racks) (small : slots racks ≤ 4096) (long : length (h .cards) ≡ slots racks * b) where
-  legal-gathered : Legal racks (gathered racks b h .places)
-  unfolding gathered
-  legal-gathered = phases-legal (first-fit spared) legal
-
-  long-gathered : length (gathered racks b h .cards) ≡ slots racks * b
-  unfolding gathered
-  long-gathered = length-carried-cards b (join (phases racks (h .places))) (h .cards) ∙ long
+  -- what the phases leave is legal, and its cards are as long
+  legal-last : Legal racks (gathered racks b h .places)
+  legal-last = legal-gathered racks b h legal spared
 
   abbrev last-places : List ℕ
   last-places = gathered racks b h .places
@@ -92,8 +88,8 @@ module _ (racks : List Rack) (b : ℕ) (h : Held) (legal : Legal racks (h .place
 
   long-brought : length last-brought ≡ slots racks * b
   long-brought =
-      let l = legal-gathered .long in
-      length-brought (chained legal-gathered small) b (gathered racks b h .cards) (long-gathered ∙ ap (λ (n : ℕ). n * b) (sym l)) ∙ ap (λ (n : ℕ). n * b) l
+      let l = legal-last .long in
+      length-brought (chained legal-last small) b (gathered racks b h .cards) (long-gathered racks b h long ∙ ap (λ (n : ℕ). n * b) (sym l)) ∙ ap (λ (n : ℕ). n * b) l
 
   long-card : (d : ℕ) → d < slots racks → length (lastCard b last-places last-brought d) ≡ b
   unfolding lastCard
@@ -120,7 +116,7 @@ module _ (racks : List Rack) (b : ℕ) (h : Held) (legal : Legal racks (h .place
   moves-few = omega (arith, phases-moves (first-fit spared) legal, aways-few racks (h .places))
 
   copies-few : length (copyList last-places) ≤ 6144
-  copies-few = omega (arith, list-most (chained legal-gathered small), legal-gathered .long)
+  copies-few = omega (arith, list-most (chained legal-last small), legal-last .long)
 
   end-few : length (endLine (counts racks b h)) ≤ 43
   unfolding counts
@@ -145,7 +141,7 @@ module _ (racks : List Rack) (b : ℕ) (h : Held) (legal : Legal racks (h .place
         phases-small 1 (phases racks (h .places)) (omega (arith, phases-few)) phases-slots-16,
         phases-few,
         moves-few,
-        copies-small (copyList last-places) (copies-slots (chained legal-gathered small)),
+        copies-small (copyList last-places) (copies-slots (chained legal-last small)),
         copies-few,
         length-cards-whole (slots racks) b cards settled-long,
         spread,

@@ -9,10 +9,9 @@ use lib.ListN.{length}
 use lib.Seq.{take-all, length-sets}
 use Rattle.counting.specs.Lists.{Pair, join}
 use Rattle.counting.proofs.Tests.{by-test}
-use Rattle.counting.proofs.Count.{count-le}
 use Rattle.counting.proofs.Stores.{length-flat}
 use Rattle.racks.specs.Racks.{Rack, slots}
-use Rattle.racks.specs.Table.{aways, away}
+use Rattle.racks.specs.Table.{aways}
 use Rattle.racks.specs.Numbers.{someAway}
 use Rattle.racks.specs.Job.{racksOf}
 use Rattle.racks.specs.declared.Job.{Job}
@@ -40,11 +39,7 @@ use Rattle.listing.specs.Writing.{Room, Wrote, phaseLine, PhasesPut}
 use Rattle.listing.specs.declared.parts.phasing.Phased.{Phased}
 use Rattle.listing.proofs.Writing.{Left, room-first, left-first, left-room, left-next, left-done}
 use Rattle.listing.proofs.Lines.{phase-lines}
-
--- no more cards are away than there are slots
-pub aways-few : (racks : List Rack) (places : List ℕ) → aways racks places ≤ slots racks
-unfolding aways
-aways-few racks places = count-le (slots racks) (away racks places)
+use Rattle.racks.proofs.Away.{aways-few}
 
 -- what the phases give
 abbrev pub phasedOf : ℕ → ℕ → ℕ → Phased

@@ -3,13 +3,19 @@ use mathlib.Core.Path.{_≡_}
 use mathlib.Core.Bool.{true, false}
 use mathlib.Core.Logic.{_≢_}
 use mathlib.Core.List.{List}
-use Prim.Native.Nat.{ℕ}
+use Prim.Native.Nat.{ℕ, _≤_}
 use borrow.Author.Tests.{eqb-true, eqb-false, eq-eqb, ne-eqb}
 use Rattle.counting.proofs.Tests.{both, and-l, and-r, and-true, and-off-r, not-on, not-off}
-use Rattle.racks.specs.Racks.{Rack, rackOf}
-use Rattle.racks.specs.Table.{free, rackTo, onRack, away, awayTo, bound, freeOn}
+use Rattle.counting.proofs.Count.{count-le}
+use Rattle.racks.specs.Racks.{Rack, slots, rackOf}
+use Rattle.racks.specs.Table.{free, rackTo, onRack, away, aways, awayTo, bound, freeOn}
 
 module _ (racks : List Rack) (places : List ℕ) where
+  -- no more cards are away than there are slots
+  pub aways-few : aways racks places ≤ slots racks
+  unfolding aways
+  aways-few = count-le (slots racks) (away racks places)
+
   -- where a card is away, the slot is not free
   pub away-held : (g : ℕ) → away racks places g ≡ true → free places g ≡ false
   unfolding away

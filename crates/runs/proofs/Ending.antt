@@ -7,7 +7,6 @@ use lib.Dec.{eqb}
 use lib.ListN.{length}
 use borrow.Author.Tests.{ltb-false}
 use Rattle.counting.proofs.Tests.{or-off-r}
-use Rattle.counting.specs.Lists.{join}
 use Rattle.counting.specs.Checks.{first}
 use Rattle.racks.specs.Racks.{Rack, slots}
 use Rattle.racks.specs.Numbers.{badBytes, cardChecks}
@@ -18,9 +17,6 @@ use Rattle.racks.specs.Legal.{Legal, Spared}
 use Rattle.moves.specs.Moves.{Held}
 use Rattle.moves.specs.Phases.{phases}
 use Rattle.moves.specs.Parts.{held, outcomeOf}
-use Rattle.moves.proofs.Carry.{length-carried-cards}
-use Rattle.moves.proofs.Phases.{phases-legal}
-use Rattle.moves.proofs.FirstFit.{first-fit}
 use Rattle.moves.proofs.Outcomes.{outcome-refused, outcome-done}
 use Rattle.copies.specs.Chains.{Chained}
 use Rattle.copies.proofs.Chains.{chained}
@@ -29,24 +25,19 @@ use Rattle.shuffle.specs.Hands.{Shuffled}
 use Rattle.shuffle.proofs.Shuffles.{settled-held}
 use Rattle.runs.specs.Run.{gathered, counts, ran}
 use Rattle.runs.specs.Gathered.{phaseCounts, PhasesMade, Ran}
+use Rattle.runs.proofs.Gathering.{legal-gathered, long-gathered}
 
 module _ (racks : List Rack) (b : ℕ) (h : Held) (legal : Legal racks (h .places)) (spared : Spared racks) (small : slots racks ≤ 4096) (long : length (h .cards) ≡ slots racks * b) where
-  legal-gathered : Legal racks (gathered racks b h .places)
-  unfolding gathered
-  legal-gathered = phases-legal (first-fit spared) legal
-
   module _ (h₁ : Held) (t : Tally) (p : PhasesMade racks b h h₁ t) where
     legal-after : Legal racks (h₁ .places)
-    legal-after = rw (p .held-is) legal-gathered
+    legal-after = rw (p .held-is) (legal-gathered racks b h legal spared)
 
     -- what the phases gathered can be shuffled
     pub ends-chained : Chained (h₁ .places)
     ends-chained = chained legal-after small
 
     pub ends-long : length (h₁ .cards) ≡ length (h₁ .places) * b
-    unfolding gathered
-    ends-long =
-        rw (legal-after .long) (ap (λ (x : Held). length (x .cards)) (p .held-is) ∙ length-carried-cards b (join (phases racks (h .places))) (h .cards) ∙ long)
+    ends-long = rw (legal-after .long) (ap (λ (x : Held). length (x .cards)) (p .held-is) ∙ long-gathered racks b h long)
 
     -- shuffled, it is the end of a whole run
     pub ends-ran : (count : ℕ) (places′ cards′ : List ℕ) → Shuffled b (h₁ .places) (h₁ .cards) count places′ cards′

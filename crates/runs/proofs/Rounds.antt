@@ -12,10 +12,8 @@ use Rattle.counting.proofs.Tests.{by-test}
 use Rattle.counting.specs.Every.{All}
 use Rattle.counting.specs.Every.All.{more, none}
 use Rattle.counting.proofs.Stores.{length-flat}
-use Rattle.racks.specs.Racks.{Rack, slots}
+use Rattle.racks.specs.Racks.{Rack}
 use Rattle.racks.specs.Table.{aways}
-use Rattle.racks.specs.Table.{away as away-at}
-use Rattle.counting.proofs.Count.{count-le}
 use Rattle.racks.specs.Numbers.{someAway}
 use Rattle.racks.specs.Answers.{noCounts}
 use Rattle.racks.specs.Job.{racksOf}
@@ -41,11 +39,7 @@ use Rattle.runs.specs.Run.{hasPairs, gathered}
 use Rattle.runs.specs.Kept.{Payable, Paid, paid}
 use Rattle.runs.specs.Gathered.{phaseCounts, Set, Gathered}
 use Rattle.runs.proofs.Owing.{owed-paid, owed-payable, awaited-is}
-
--- no more cards are away than there are slots
-aways-few : (racks : List Rack) (places : List ℕ) → aways racks places ≤ slots racks
-unfolding aways
-aways-few racks places = count-le (slots racks) (away-at racks places)
+use Rattle.racks.proofs.Away.{aways-few}
 
 -- plans that all have pairs are counted whole
 pub all-counted : {ps : List (List Pair)} → All HasPair ps → matching hasPairs ps ≡ length ps

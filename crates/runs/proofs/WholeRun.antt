@@ -17,8 +17,8 @@ use Rattle.racks.specs.Legal.{Legal, Spared}
 use Rattle.moves.specs.Blocks.{block, blank}
 use Rattle.moves.specs.Moves.{Held, carried}
 use Rattle.moves.specs.Phases.{phases, budget}
-use Rattle.moves.proofs.Carry.{stands-carried, length-carried-cards}
-use Rattle.moves.proofs.Phases.{phases-in-turn, phases-legal, phases-moves, phases-pairs}
+use Rattle.moves.proofs.Carry.{stands-carried}
+use Rattle.moves.proofs.Phases.{phases-in-turn, phases-moves, phases-pairs}
 use Rattle.moves.proofs.FirstFit.{first-fit}
 use Rattle.moves.proofs.Kept.{Card, card-carried}
 use Rattle.copies.specs.Copies.{copyList}
@@ -26,19 +26,12 @@ use Rattle.shuffle.specs.Shuffle.{isNamed, settledHeld}
 use Rattle.shuffle.proofs.Settled.{settled-card, settled-blank, settled-self, settled-free}
 use Rattle.runs.specs.Run.{gathered, counts}
 use Rattle.runs.proofs.Rounds.{all-counted}
+use Rattle.runs.proofs.Gathering.{legal-gathered, long-gathered}
 
 module _ (racks : List Rack) (b : ℕ) (h : Held) (legal : Legal racks (h .places)) (spared : Spared racks) (small : slots racks ≤ 4096) (long : length (h .cards) ≡ slots racks * b) where
   -- the table and the cards at the end
   abbrev pub final : Held
   final = settledHeld racks b (gathered racks b h)
-
-  legal-after : Legal racks (gathered racks b h .places)
-  unfolding gathered
-  legal-after = phases-legal (first-fit spared) legal
-
-  long-after : length (gathered racks b h .cards) ≡ slots racks * b
-  unfolding gathered
-  long-after = length-carried-cards b (join (phases racks (h .places))) (h .cards) ∙ long
 
   -- the card of slot g, after the phases
   card-after : (g d : ℕ) → g < slots racks → dest (h .places) g ≡ d → d ≢ FREE → Card racks b (gathered racks b h .places) (gathered racks b h .cards) d (block b g (h .cards))
@@ -49,7 +42,7 @@ module _ (racks : List Rack) (b : ℕ) (h : Held) (legal : Legal racks (h .place
   pub run-card : (g d : ℕ) → g < slots racks → dest (h .places) g ≡ d → d ≢ FREE → block b d (final .cards) ≡ block b g (h .cards)
   run-card g d l e f =
       let c = card-after g d l e f in
-      settled-card racks b (gathered racks b h) legal-after small long-after (c .at) d (c .at-lt) (c .bound-for) f ∙ c .bytes-are
+      settled-card racks b (gathered racks b h) (legal-gathered racks b h legal spared) small (long-gathered racks b h long) (c .at) d (c .at-lt) (c .bound-for) f ∙ c .bytes-are
 
   -- a slot that no entry named, none names after the phases
   none-after : (d : ℕ) → d < slots racks → ((g : ℕ) → g < slots racks → dest (h .places) g ≢ d) → (g : ℕ) → g < slots racks → dest (gathered racks b h .places) g ≢ d
@@ -64,7 +57,7 @@ module _ (racks : List Rack) (b : ℕ) (h : Held) (legal : Legal racks (h .place
 
   -- every slot that no card names is all zero
   pub run-blank : (d : ℕ) → d < slots racks → ((g : ℕ) → g < slots racks → dest (h .places) g ≢ d) → block b d (final .cards) ≡ blank b
-  run-blank d l n = settled-blank racks b (gathered racks b h) legal-after small long-after d l (none-after d l n)
+  run-blank d l n = settled-blank racks b (gathered racks b h) (legal-gathered racks b h legal spared) small (long-gathered racks b h long) d l (none-after d l n)
 
   -- each named slot names itself
   pub run-self : (g d : ℕ) → g < slots racks → d < slots racks → dest (h .places) g ≡ d → dest (final .places) d ≡ d
@@ -72,14 +65,14 @@ module _ (racks : List Rack) (b : ℕ) (h : Held) (legal : Legal racks (h .place
   run-self g d l m e =
       let c = card-after g d l e (λ q. omega arith) in
       settled-self racks b (gathered racks b h) d m
-      (some-hit (length (gathered racks b h .places)) (names (gathered racks b h .places) d) (c .at) (omega (arith, c .at-lt, legal-after .long)) (eq-eqb (dest (gathered racks b h .places) (c .at)) d (c .bound-for)))
+      (some-hit (length (gathered racks b h .places)) (names (gathered racks b h .places) d) (c .at) (omega (arith, c .at-lt, (legal-gathered racks b h legal spared) .long)) (eq-eqb (dest (gathered racks b h .places) (c .at)) d (c .bound-for)))
 
   -- all else is 65,535
   pub run-free : (d : ℕ) → d < slots racks → ((g : ℕ) → g < slots racks → dest (h .places) g ≢ d) → dest (final .places) d ≡ FREE
   unfolding isNamed names
   run-free d l n =
       settled-free racks b (gathered racks b h) d l
-      (some-none (length (gathered racks b h .places)) (names (gathered racks b h .places) d) (λ k i. ne-eqb (dest (gathered racks b h .places) k) d (none-after d l n k (omega (arith, legal-after .long)))))
+      (some-none (length (gathered racks b h .places)) (names (gathered racks b h .places) d) (λ k i. ne-eqb (dest (gathered racks b h .places) k) d (none-after d l n k (omega (arith, (legal-gathered racks b h legal spared) .long)))))
 
   -- moves counts the cards that were away
   pub run-moves : counts racks b h .moves ≡ aways racks (h .places)
