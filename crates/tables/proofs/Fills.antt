@@ -61,7 +61,7 @@ module _ (racks : List Rack) where
     ]
 
     -- a slot of rack p is a user slot if it lies before the spares
-    user-here : (g : ℕ) → low ≤ g → g < high → isUser racks g ≡ ltb g (spareOf racks p)
+    pub user-here : (g : ℕ) → low ≤ g → g < high → isUser racks g ≡ ltb g (spareOf racks p)
     user-here g m m′ =
         user-is racks g (omega (arith, end-le racks p l)) ∙ ap (λ (q : ℕ). ltb g (spareOf racks q)) (rack-is racks p g l (omega arith) (omega arith))
 

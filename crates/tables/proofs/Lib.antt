@@ -1,3 +1,4 @@
 pub mod Fills
 pub mod Marks
 pub mod Tables
+pub mod Once

@@ -1,3 +1,4 @@
 pub mod Check
 pub mod Tables
 pub mod Marks
+pub mod Once

@@ -1,11 +1,14 @@
 // What the layers above share: each slot's rack in a table of bytes, and the number of a lent table.
 ghost use mathlib.Core.Path.{_≡_};
 ghost use mathlib.Core.List.{List};
+ghost use mathlib.Core.Bool.{true};
 ghost use Prim.Native.Nat.{ℕ, _≤_, _<_};
 ghost use lib.ListN.{length};
 ghost use Rattle.racks.specs.Job.{racksOf, Sound};
 ghost use Rattle.tables.specs.Tables.{Laid, Marked, Between, Checked, CardsChecked};
 ghost use Rattle.tables.specs.Marks.{Entered, entriesNumber, worse};
+ghost use Rattle.tables.specs.Once.{placeOf, MarkTaken, Opened, OnceMarked};
+ghost use Rattle.counting.specs.Tests.{_and_};
 use racks::Job;
 
 // One value from `low` up to `high` in a table of bytes.
@@ -91,6 +94,103 @@ fn entries_number(job: Job, places: &[u16], marks: &mut [u8; 4096]) -> u8
     worst
 }
 
+// The number of the entries of a table, with the marks made.
+fn number_entries(job: Job, places: &[u16]) -> u8
+    requires { ⌜ Sound job × (length (now places) ≡ job .slots) ⌝ }
+    ensures { λ r. ⌜ r ≡ entriesNumber (racksOf job) (now (places .entry)) ⌝ }
+{
+    let mut racks = [0u8; 4096];
+    let mut marks = [0u8; 4096];
+    fill_tables(job, &mut racks, &mut marks);
+    entries_number(job, places, &mut marks)
+}
+
+// The marks from `low` up to `high` are shut.
+fn shut(marks: &mut [u8; 8193], low: usize, high: usize)
+    requires { ⌜ (high ≤ 8193) × (length (now marks) ≡ 8193) ⌝ }
+    ensures { λ _. ⌜ Between low high 0 (now (marks .entry)) (now (marks .exit)) ⌝ }
+{
+    let mut g = low;
+    while g < high {
+        marks[g] = 0;
+        g = g + 1;
+    }
+}
+
+// Each slot's rack into one table; into the other an open mark for each user slot, a shut one for each spare and behind the last slot.
+fn fill_racks(job: Job, table: &mut [u8; 4096], marks: &mut [u8; 8193])
+    requires { ⌜ Sound job ⌝ }
+    ensures { λ _. ⌜ Opened (racksOf job) (now (table .exit)) (now (marks .exit)) ⌝ }
+{
+    *table = [0; 4096];
+    *marks = [1; 8193];
+    let n = job.racks;
+    let mut low: usize = 0;
+    let mut p: usize = 0;
+    while p < n {
+        let spare = job.spares[p] as usize;
+        let end = job.ends[p] as usize;
+        fill(table, low, end, p as u8);
+        shut(marks, spare, end);
+        low = end;
+        p = p + 1;
+    }
+    marks[low] = 0;
+}
+
+// Where the mark of an entry stands: a free slot has one of its own, so that no mark waits for the one before it. No branch: in a table
+// where free and taken slots alternate at random none could be foretold.
+fn place_of(slots: usize, g: usize, x: u16) -> usize
+    requires { ⌜ (slots ≤ 4096) × (g < 4096) ⌝ }
+    ensures { λ r. ⌜ r ≡ placeOf slots g x ⌝ }
+{
+    if x == Job::FREE {
+        return 4097 + g;
+    }
+    let at = x as usize;
+    if slots < at {
+        return slots;
+    }
+    at
+}
+
+// Shuts the mark at a place; whether it was open.
+fn take_mark(marks: &mut [u8; 8193], at: usize) -> bool
+    requires { ⌜ (at < 8193) × (length (now marks) ≡ 8193) ⌝ }
+    ensures { λ r. ⌜ MarkTaken (now (marks .entry)) at r (now (marks .exit)) ⌝ }
+{
+    let mark = marks[at];
+    marks[at] = 0;
+    mark == 1
+}
+
+// Both of two tests.
+fn both(a: bool, b: bool) -> bool
+    ensures { λ r. ⌜ r ≡ (a and b) ⌝ }
+{
+    if a {
+        return b;
+    }
+    false
+}
+
+// Whether each entry found its mark open: then no entry is refused. One pass without a branch on an entry, since free and taken slots may
+// alternate at random; which number a refused table gets is left to `number_entries`.
+fn marked_once(job: Job, places: &[u16], marks: &mut [u8; 8193]) -> bool
+    requires { ⌜ Sound job × (length (now places) ≡ job .slots) × OnceMarked (racksOf job) (now marks) ⌝ }
+    ensures { λ r. ⌜ (r ≡ true → 0 ≡ entriesNumber (racksOf job) (now (places .entry))) ⌝ }
+{
+    let mut all = true;
+    let mut g: usize = 0;
+    while g < job.slots {
+        let at = place_of(job.slots, g, places[g]);
+        let fits = take_mark(marks, at);
+        all = both(all, fits);
+        g = g + 1;
+    }
+    all
+}
+
 // The number of a table; where it is 0, each slot's rack is in `racks`.
 pub fn table_number(job: Job, places: &[u16], racks: &mut [u8; 4096]) -> u8
     requires { ⌜ (job .refused ≡ 0 → Sound job) ⌝ }
@@ -102,9 +202,12 @@ pub fn table_number(job: Job, places: &[u16], racks: &mut [u8; 4096]) -> u8
     if places.len() != job.slots {
         return 4;
     }
-    let mut marks = [0u8; 4096];
-    fill_tables(job, racks, &mut marks);
-    entries_number(job, places, &mut marks)
+    let mut marks = [0u8; 8193];
+    fill_racks(job, racks, &mut marks);
+    if marked_once(job, places, &mut marks) {
+        return 0;
+    }
+    number_entries(job, places)
 }
 
 // The number of a table and its cards of B bytes; where it is 0, each slot's rack is in `racks`.

@@ -1,0 +1,20 @@
+use borrow.Author.Needs.{needs}
+use native.Mathlib.Omega.{arith}
+use Rattle.tables.proofs.Once.{place-free, place-none, place-slot}
+use Rattle.tables.proofs.parts.place_of.Statement.{statement}
+use Rattle.tables.proofs.parts.place_of.Tie as tie
+
+add-result : tie.Need-add-result
+add-result c = search needs
+
+returns : tie.Need-returns
+returns c = place-free _ _ _ (c .if1 .taken)
+
+returns-2 : tie.Need-returns-2
+returns-2 c = place-none _ _ _ (c .before .if1 .left) (c .if2 .taken)
+
+returns-3 : tie.Need-returns-3
+returns-3 c = place-slot _ _ _ (c .before .if1 .left) (omega arith)
+
+pub place-of-spec : {M : Type 1} → statement M
+place-of-spec = tie.close (tie.spec add-result returns returns-2 returns-3)
