@@ -1,29 +1,28 @@
 -- Laws of the quick pass over the entries: where each found its mark open, none is refused. Assumes nothing.
-use mathlib.Core.Path.{_≡_, refl, ap, sym, _∙_}
+use mathlib.Core.Path.{_≡_, ap, sym, _∙_}
 use mathlib.Core.Bool.{Bool, true, false, not}
-use mathlib.Core.List.{List, [], _∷_}
+use mathlib.Core.List.{List, []}
 use Prim.Native.Nat.{ℕ, suc, _+_, _≤_, _<_}
 use native.Mathlib.Omega.{arith}
 use native.Mathlib.Decide.{ℕ-discrete, decLt}
-use lib.Dec.{eqb, ltb}
 use lib.ListN.{length, getD, set, length-set}
 use lib.Seq.{getD-set-same, getD-set-other}
 use borrow.Author.Tests.{eq-eqb, ne-eqb, eqb-true, lt-ltb, le-ltb}
 use borrow.Author.Count.{below-more}
-use Rattle.counting.specs.Tests.{_and_, pick}
+use Rattle.counting.specs.Tests.{_and_}
 use Rattle.counting.specs.Count.{some}
-use Rattle.counting.proofs.Tests.{and-l, and-r, and-off-l, and-off-r, or-l, or-r, or-none, or-false}
+use Rattle.counting.proofs.Tests.{and-l, and-r, and-off-l, and-off-r, or-l, or-r, or-none}
 use Rattle.counting.proofs.Some.{some-none, some-more, some-zero}
 use Rattle.counting.proofs.Checks.{first-later, first-none}
 use Rattle.racks.specs.Limits.{FREE}
 use Rattle.racks.specs.Racks.{Rack, base, slots, spareOf, isUser}
 use Rattle.racks.specs.Table.{dest, free, names}
 use Rattle.racks.specs.Numbers.{badEntry, badEntries, repeats, badTwice}
-use Rattle.racks.proofs.Geometry.{user-lt, user-none, spare-is, spare-end}
-use Rattle.tables.specs.Tables.{Filled, Between}
+use Rattle.racks.proofs.Geometry.{user-lt}
+use Rattle.tables.specs.Tables.{Between}
 use Rattle.tables.specs.Marks.{entriesNumber}
-use Rattle.tables.specs.Once.{placeOf, OnceMarked, Opened, MarkTaken}
-use Rattle.tables.proofs.Fills.{FilledTo, user-here}
+use Rattle.tables.specs.Once.{placeOf, OnceMarked, MarkTaken}
+use Rattle.tables.proofs.Fills.{user-here}
 
 -- the place of an entry, by the tests that the code makes
 module _ (S g x : ℕ) where

@@ -1,4 +1,3 @@
-use mathlib.Core.Bool.{true, false}
 use Rattle.counting.specs.Tests.{_and_}
 use Rattle.tables.proofs.parts.both.Statement.{statement}
 use Rattle.tables.proofs.parts.both.Tie as tie

@@ -1,7 +1,7 @@
 use borrow.Author.Needs.{needs}
 use native.Mathlib.Omega.{arith}
 use Prim.Native.Nat.{ℕ, _-_, _≤_}
-use mathlib.Core.Path.{_≡_, ap, sym, _∙_}
+use mathlib.Core.Path.{ap, _∙_}
 use Rattle.racks.specs.Job.{racksOf}
 use Rattle.racks.proofs.Jobs.{slots-few, sound-slots}
 use Rattle.racks.specs.Table.{dest}
