@@ -1,56 +1,77 @@
 -- Laws of counting what racks owe, slot by slot. Assumes nothing.
-use mathlib.Core.Path.{_≡_, ap, sym, _∙_}
+use mathlib.Core.Path.{_≡_, refl, ap, sym, _∙_}
 use mathlib.Core.Bool.{true, false, not}
 use mathlib.Core.Logic.{_≢_}
 use mathlib.Core.List.{List}
 use Prim.Native.Nat.{ℕ, _+_, _≤_, _<_}
 use native.Mathlib.Omega.{arith}
 use native.Mathlib.Decide.{ℕ-discrete}
+use lib.Dec.{eqb}
 use lib.ListN.{length, getD, set, replicate, length-replicate}
-use borrow.Author.Tests.{eq-eqb, ne-eqb}
+use borrow.Author.Tests.{eq-eqb}
+use Rattle.counting.specs.Tests.{_and_, bit, pick}
 use Rattle.counting.specs.Count.{count}
-use Rattle.counting.proofs.Tests.{by-test, off, both, and-off-l, and-off-r, not-off}
+use Rattle.counting.proofs.Tests.{by-test, off, and-off-l}
 use Rattle.counting.proofs.Count.{count-none}
 use Rattle.racks.specs.Limits.{FREE}
 use Rattle.racks.specs.Racks.{Rack, slots, rackOf}
 use Rattle.racks.specs.Table.{dest, free, rackTo, onRack, away, bound, owes}
 use Rattle.racks.proofs.Geometry.{rack-lt}
-use Rattle.racks.specs.Legal.{Legal}
+use Rattle.racks.specs.Legal.{Legal, Spared}
 use Rattle.racks.proofs.LegalTable.{legal-dest}
 use Rattle.racks.proofs.Away.{away-held, to-away, to-rack, to-is, bound-on, bound-off}
-use Rattle.tables.specs.Tables.{Filled}
+use Rattle.tables.specs.Tables.{namedSlot, Filled}
 use Rattle.queues.specs.Queued.{oneMore, roomsWith}
-use Rattle.queues.proofs.Counts.{zeros, one-count, one-few, one-long}
+use Rattle.queues.proofs.Counts.{zeros, more-by, one-count, one-few, one-long}
 use Rattle.queues.proofs.Queueing.{RoomsTo, rooms-none, rooms-more}
 use Rattle.queues.proofs.AllQueued.{rooms-all}
 use Rattle.plans.specs.Owed.{cell, Tallied, awayBy, owesWith, Counted, Countable}
 
--- a slot whose entry is not 65,535 is not free
-pub held : (places : List ℕ) (g : ℕ) → dest places g ≢ FREE → free places g ≡ false
-unfolding free
-held places g d = ne-eqb (dest places g) FREE d
+-- n is the slot that slot g's entry names
+module _ (places table : List ℕ) (g n : ℕ) (en : n ≡ namedSlot g (dest places g)) where
+  -- where the slot is free, itself
+  named-free : free places g ≡ true → n ≡ g
+  unfolding namedSlot free
+  named-free f = en ∙ rw f
 
--- one slot, by the tests that the code makes
-module _ (places table : List ℕ) (g : ℕ) (owed rooms : List ℕ) where
-  -- a free slot
-  pub counted-free : dest places g ≡ FREE → Counted places table g owed rooms owed (set rooms (getD table g 0) (getD rooms (getD table g 0) 0 + 1))
-  unfolding free awayBy owesWith roomsWith oneMore
-  counted-free e =
-      let f : free places g ≡ true = eq-eqb (dest places g) FREE e in
-      record { owed-are = rw (and-off-l _ (ap not f)); rooms-are = rw f }
+  -- else where its card must end
+  named-held : free places g ≡ false → n ≡ dest places g
+  unfolding namedSlot free
+  named-held f = en ∙ rw f
 
-  module _ (d : dest places g ≢ FREE) where
-    -- a card on its rack
-    pub counted-here : getD table g 0 ≡ getD table (dest places g) 0 → Counted places table g owed rooms owed rooms
-    unfolding awayBy owesWith roomsWith
-    counted-here e = record { owed-are = rw (and-off-r (not (free places g)) (ap not (eq-eqb _ _ e))); rooms-are = rw (held places g d) }
+  -- by that slot's rack the card is away exactly where it is; a free slot is on its own rack
+  away-named : not (eqb (getD table g 0) (getD table n 0)) ≡ awayBy places table g
+  unfolding awayBy _and_
+  away-named = by-test (free places g)
+      (λ f. ap not (eq-eqb (getD table g 0) (getD table n 0) (ap (λ (k : ℕ). getD table k 0) (sym (named-free f)))) ∙ rw f)
+      (λ f. rw (f, named-held f))
 
-    -- a card that is away
-    pub counted-away : getD table g 0 ≢ getD table (dest places g) 0
-        → Counted places table g owed rooms
-        (set owed (cell (getD table g 0) (getD table (dest places g) 0)) (getD owed (cell (getD table g 0) (getD table (dest places g) 0)) 0 + 1)) rooms
-    unfolding awayBy owesWith roomsWith oneMore
-    counted-away n = record { owed-are = rw (both (not-off (held places g d)) (not-off (ne-eqb _ _ n))); rooms-are = rw (held places g d) }
+  -- the code counts what racks owe at the slot's rack and the named one's: 0 more where no card is away
+  owed-named : (owed : List ℕ) → pick (awayBy places table g) (oneMore owed (cell (getD table g 0) (getD table n 0))) owed ≡ owesWith places table g owed
+  unfolding owesWith awayBy _and_
+  owed-named owed = by-test (free places g)
+      (λ f. rw f)
+      (λ f. rw (named-held f))
+
+  -- the table has the named slot's rack, and so the counts a place for the two
+  pub slot-racked : (owed rooms : List ℕ) → Countable places table g owed rooms → getD table n 0 < 64
+  slot-racked owed rooms q = rw en (q .racked)
+
+  pub slot-cell : (owed rooms : List ℕ) → Countable places table g owed rooms → cell (getD table g 0) (getD table n 0) < 4096
+  slot-cell owed rooms q = omega (arith, q .rack, slot-racked owed rooms q)
+
+  -- each count is stored, with 0 or 1 added
+  pub counted-slot : (owed rooms : List ℕ) (x y : ℕ) → x ≡ bit (not (eqb (getD table g 0) (getD table n 0))) → y ≡ bit (eqb (dest places g) FREE)
+      → Counted places table g owed rooms (set owed (cell (getD table g 0) (getD table n 0)) (getD owed (cell (getD table g 0) (getD table n 0)) 0 + x))
+      (set rooms (getD table g 0) (getD rooms (getD table g 0) 0 + y))
+  unfolding roomsWith free
+  counted-slot owed rooms x y ex ey =
+      record {
+        owed-are =
+            rw (ex, away-named) (more-by (awayBy places table g) (cell (getD table g 0) (getD table n 0)) owed)
+            ∙ owed-named owed;
+        rooms-are = rw ey (more-by (eqb (dest places g) FREE) (getD table g 0) rooms);
+      }
 
 -- the first g slots are counted
 pub record CountedTo (racks : List Rack) (places : List ℕ) (g : ℕ) (owed rooms : List ℕ) : Type 0 where
@@ -80,7 +101,7 @@ module _ (racks : List Rack) (places : List ℕ) where
       }
 
   -- slot g of a legal table is next
-  module _ (v : Legal racks places) (few : length racks ≤ 64) (small : slots racks ≤ 4096) (table : List ℕ) (filled : Filled racks table)
+  module _ (v : Legal racks places) (few : length racks ≤ 64) (small : slots racks ≤ 4096) (spared : Spared racks) (table : List ℕ) (filled : Filled racks table)
       (g : ℕ) (l : g < slots racks) (owed rooms : List ℕ) (c : CountedTo racks places g owed rooms) where
     -- its rack, looked up
     here : getD table g 0 ≡ rackOf racks g
@@ -100,6 +121,12 @@ module _ (racks : List Rack) (places : List ℕ) where
         let m = legal-dest racks places v g l f in
         omega (arith, filled (dest places g) m, rack-lt racks (dest places g) m)
 
+    -- the slot that its entry names, looked up
+    named-in : (namedSlot g (dest places g) < 4096) × (getD table (namedSlot g (dest places g)) 0 < length racks)
+    named-in = by-test (free places g)
+        (λ f. let e = named-free places table g _ refl f in (omega (arith, e), rw e here-lt))
+        (λ f. let e = named-held places table g _ refl f in (omega (arith, e, legal-dest racks places v g l f), rw e (there-lt f)))
+
     -- it can be counted
     pub countable : Countable places table g owed rooms
     countable =
@@ -107,8 +134,8 @@ module _ (racks : List Rack) (places : List ℕ) where
           slot = omega (arith, v .long);
           small = omega arith;
           rack = omega (arith, here-lt);
-          dest-small = λ f. omega (arith, legal-dest racks places v g l f);
-          dest-rack = λ f. omega (arith, there-lt f);
+          named = named-in .0;
+          racked = omega (arith, named-in .1);
           owed-long = c .owed-long;
           owed-fit = λ k. omega (arith, c .owed-few k);
           rooms-long = c .rooms-are .long;
@@ -153,5 +180,5 @@ module _ (racks : List Rack) (places : List ℕ) where
           owed-are = λ i p h h′. one-count _ at owed owed′ (k .owed-are) m g (cell i p) (bound racks places i p) (c .owed-are i p h h′) (bound-here i p h h′) (bound-none i p);
           owed-few = one-few _ at owed owed′ (k .owed-are) m g (c .owed-few);
           owed-long = one-long _ at owed owed′ (k .owed-are) m ∙ c .owed-long;
-          rooms-are = rooms-more racks places table (record { legal = v; filled = filled; small = small; few = few }) g l rooms rooms′ (c .rooms-are) (k .rooms-are);
+          rooms-are = rooms-more racks places table (record { legal = v; filled = filled; small = small; few = few; spared = spared }) g l rooms rooms′ (c .rooms-are) (k .rooms-are);
         }

@@ -1,6 +1,6 @@
 -- What racks owe, as the code counts it: a flat table of 64 by 64 counts at rack times 64 plus rack. Assumes nothing: these are definitions.
 use mathlib.Core.Path.{_≡_}
-use mathlib.Core.Bool.{Bool, false, not}
+use mathlib.Core.Bool.{Bool, not}
 use mathlib.Core.List.{List}
 use Prim.Native.Nat.{ℕ, zero, suc, _+_, _*_, _-_, _<_, min}
 use lib.Dec.{eqb}
@@ -8,6 +8,7 @@ use lib.ListN.{length, getD}
 use Rattle.counting.specs.Tests.{_and_, pick}
 use Rattle.racks.specs.Racks.{Rack}
 use Rattle.racks.specs.Table.{dest, free, owes}
+use Rattle.tables.specs.Tables.{namedSlot}
 use Rattle.phases.specs.Plan.{other}
 use Rattle.queues.specs.Queued.{oneMore, roomsWith}
 use Rattle.queues.specs.Ready.{Roomy}
@@ -39,13 +40,13 @@ pub record Counted (places table : List ℕ) (g : ℕ) (owed rooms owed′ rooms
   pub owed-are : owed′ ≡ owesWith places table g owed
   pub rooms-are : rooms′ ≡ roomsWith places table g rooms
 
--- slot g can be counted: its rack and its card's rack are in the table, and each count has room for one more
+-- slot g can be counted: its rack and its card's rack (its own where it is free) are in the table, and each count has room for one more
 pub record Countable (places table : List ℕ) (g : ℕ) (owed rooms : List ℕ) : Type 0 where
   pub slot : g < length places
   pub small : g < 4096
   pub rack : getD table g 0 < 64
-  pub dest-small : free places g ≡ false → dest places g < 4096
-  pub dest-rack : free places g ≡ false → getD table (dest places g) 0 < 64
+  pub named : namedSlot g (dest places g) < 4096
+  pub racked : getD table (namedSlot g (dest places g)) 0 < 64
   pub owed-long : length owed ≡ 4096
   pub owed-fit : (k : ℕ) → getD owed k 0 < 65535
   pub rooms-long : length rooms ≡ 64

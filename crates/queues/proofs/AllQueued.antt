@@ -33,7 +33,7 @@ job-lasts job s = record { slots-are = sound-ends job s; long = ap (λ (j : Job)
 
 -- a sound job, a table that is not refused, and each slot's rack
 pub job-tabled : (job : Job) (places table : List ℕ) → Sound job × Filled (racksOf job) table × (first (tableChecks (racksOf job) places) ≡ 0) → Tabled (racksOf job) places table
-job-tabled job places table s = record { legal = legal (racksOf job) places (s .2); filled = s .1; small = s .0 .small; few = sound-few job (s .0) }
+job-tabled job places table s = record { legal = legal (racksOf job) places (s .2); filled = s .1; small = s .0 .small; few = sound-few job (s .0); spared = s .0 .spared }
 
 -- the counts of free slots after all slots
 pub rooms-all : (racks : List Rack) (places rooms : List ℕ) → RoomsTo racks places (slots racks) rooms → Roomy racks places rooms

@@ -1,14 +1,14 @@
 -- Counts in a list, one slot more at a time. Assumes nothing.
-use mathlib.Core.Path.{_≡_, sym, _∙_}
+use mathlib.Core.Path.{_≡_, refl, sym, _∙_}
 use mathlib.Core.Bool.{Bool, true, false}
 use mathlib.Core.Logic.{_≢_}
 use mathlib.Core.List.{List}
 use Prim.Native.Nat.{ℕ, _+_, _≤_, _<_}
 use native.Mathlib.Omega.{arith}
 use native.Mathlib.Decide.{ℕ-discrete, decLt}
-use lib.ListN.{length, getD, length-set, replicate, getD-replicate, length-replicate, List·getD-eq-default}
-use lib.Seq.{getD-set-same, getD-set-other}
-use Rattle.counting.specs.Tests.{pick}
+use lib.ListN.{length, getD, set, length-set, replicate, getD-replicate, length-replicate, List·getD-eq-default}
+use lib.Seq.{getD-set-same, getD-set-other, set-getD}
+use Rattle.counting.specs.Tests.{bit, pick}
 use Rattle.counting.specs.Count.{count}
 use Rattle.counting.proofs.Tests.{by-test, no-way}
 use Rattle.counting.proofs.Count.{count-on, count-off}
@@ -20,6 +20,14 @@ zeros n k = elim (decLt k n) [
   | yes l ↦ getD-replicate n k 0 0 l
   | no l ↦ List·getD-eq-default (replicate n 0) 0 (omega (arith, length-replicate {A = ℕ} n 0))
 ]
+
+-- to add 0 or 1 by a test is to add one where it passes
+pub more-by : (test : Bool) (k : ℕ) (l : List ℕ) → set l k (getD l k 0 + bit test) ≡ pick test (oneMore l k) l
+unfolding oneMore
+more-by true k l = refl
+more-by false k l =
+    let e : getD l k 0 + 0 ≡ getD l k 0 = omega arith in
+    rw e (set-getD l k 0)
 
 -- counts before and after a slot, which adds one at k where its test passes
 module _ (test : Bool) (k : ℕ) (l l′ : List ℕ) (e : l′ ≡ pick test (oneMore l k) l) (h : test ≡ true → k < length l) where

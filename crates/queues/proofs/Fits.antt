@@ -4,13 +4,14 @@ use mathlib.Core.Bool.{true, false}
 use mathlib.Core.List.{List}
 use Prim.Native.Nat.{ℕ, suc, _+_, _-_, _≤_, _<_}
 use native.Mathlib.Omega.{arith}
+use lib.ListN.{length}
 use borrow.Author.Tests.{ltb-true}
 use Rattle.counting.specs.Count.{count}
 use Rattle.counting.proofs.Count.{pigeonhole, count-all, count-none, count-on, count-off}
 use Rattle.racks.specs.Racks.{Rack, users, base, slots, rackOf, spareOf}
 use Rattle.racks.specs.Table.{dest, free, rackTo, awayTo}
 use Rattle.racks.proofs.Geometry.{rack-in, spare-is, spare-end, user-is}
-use Rattle.racks.specs.Legal.{Legal}
+use Rattle.racks.specs.Legal.{Legal, Spared}
 use Rattle.racks.proofs.LegalTable.{legal-dest}
 use Rattle.racks.proofs.Away.{away-held, to-away, to-rack}
 
@@ -79,6 +80,7 @@ module _ (racks : List Rack) (places : List ℕ) (p : ℕ) where
     unfolding tailAt
     tail-in g m = omega (arith, queue-fits g m, spare-is racks p, spare-end racks p)
 
-    -- and while a card is to come, before p's end
-    pub tail-room : (g : ℕ) → g < slots racks → awayTo racks places p g ≡ true → tailAt racks places g p < base racks (suc p)
-    tail-room g l a = omega (arith, tail-in (g + 1) (omega arith), tail-on g a)
+    -- and, since p has a spare, before p's end
+    pub tail-room : Spared racks → p < length racks → (g : ℕ) → g ≤ slots racks → tailAt racks places g p < base racks (suc p)
+    unfolding tailAt
+    tail-room s h g m = omega (arith, queue-fits g m, spare-is racks p, s .spare p h)

@@ -8,6 +8,8 @@ use native.Mathlib.Omega.{arith}
 use native.Mathlib.Decide.{ℕ-discrete, decLt}
 use lib.ListN.{length, getD, set, length-set, replicate, length-replicate}
 use lib.Seq.{getD-set-same, getD-set-other}
+use borrow.Author.Tests.{eq-eqb}
+use Rattle.counting.specs.Tests.{_and_}
 use Rattle.counting.specs.Count.{count, select}
 use Rattle.counting.proofs.Tests.{by-test, off, no-way, and-off-l}
 use Rattle.counting.proofs.Count.{count-none}
@@ -15,12 +17,12 @@ use Rattle.counting.proofs.Select.{select-on, select-off}
 use Rattle.racks.specs.Racks.{Rack, base, slots}
 use Rattle.racks.specs.Table.{dest, free, rackTo, onRack, away, awayTo, freeOn}
 use Rattle.racks.proofs.Geometry.{base-mono, end-le, rack-lt}
-use Rattle.racks.specs.Legal.{Legal}
+use Rattle.racks.specs.Legal.{Legal, Spared}
 use Rattle.racks.proofs.LegalTable.{legal-dest}
 use Rattle.racks.proofs.Away.{away-held, to-away, to-rack, to-is, on-free, on-rack, on-is}
-use Rattle.tables.specs.Tables.{Filled}
+use Rattle.tables.specs.Tables.{namedSlot, Filled}
 use Rattle.queues.specs.Queues.{part}
-use Rattle.queues.specs.Queued.{Firsts, target, sends, queued, tailed, roomsWith, Queueable, Queued}
+use Rattle.queues.specs.Queued.{Firsts, target, sends, queued, tailed, oneMore, roomsWith, Queueable, Queued}
 use Rattle.queues.proofs.Counts.{zeros, one-count, one-few, one-long}
 use Rattle.queues.proofs.Stretch.{part-none, part-push, part-before, part-behind}
 use Rattle.queues.proofs.Fits.{tailAt, tail-none, tail-up, tail-on, tail-off, tail-in, tail-room}
@@ -31,6 +33,7 @@ pub record Tabled (racks : List Rack) (places table : List ℕ) : Type 0 where
   pub filled : Filled racks table
   pub small : slots racks ≤ 4096
   pub few : length racks ≤ 64
+  pub spared : Spared racks
 
 -- the queues after g slots
 pub record Queueing (racks : List Rack) (places : List ℕ) (g : ℕ) (queue tails : List ℕ) : Type 0 where
@@ -66,36 +69,54 @@ queueing-none racks places tails f =
 
 -- one slot more
 module _ (racks : List Rack) (places table : List ℕ) (t : Tabled racks places table) (g : ℕ) (l : g < slots racks) where
+  -- each queue has room for one slot more in its own rack, which has a spare
+  room-at : (p : ℕ) → p < length racks → tailAt racks places g p < base racks (suc p)
+  room-at p m = tail-room racks places p (t .legal) (t .spared) m g (omega arith)
+
   -- a store at the tail of one queue does not touch another: each lies in its own rack
-  other-kept : (queue : List ℕ) (p q x : ℕ) → p ≢ q → awayTo racks places p g ≡ true
+  other-kept : (queue : List ℕ) (p q x : ℕ) → p < length racks → p ≢ q
       → part (set queue (tailAt racks places g p) x) (base racks q) (tailAt racks places g q) ≡ part queue (base racks q) (tailAt racks places g q)
-  other-kept queue p q x d a = elim (decLt p q) [
+  other-kept queue p q x h d = elim (decLt p q) [
     | yes m ↦ part-behind queue (base racks q) (tailAt racks places g q) (tailAt racks places g p) x
-        (omega (arith, tail-room racks places p (t .legal) g l a, base-mono racks (suc p) q m))
+        (omega (arith, room-at p h, base-mono racks (suc p) q m))
     | no m ↦ part-before queue (base racks q) (tailAt racks places g q) (tailAt racks places g p) x
         (omega (arith, tail-up racks places p g, tail-in racks places q (t .legal) g (omega arith), base-mono racks (suc q) p (omega arith)))
   ]
 
-  -- the table has the rack where slot g's card must end
-  target-is : free places g ≡ false → target table places g ≡ rackTo racks places g
-  unfolding target rackTo
-  target-is f = t .filled (dest places g) (legal-dest racks places (t .legal) g l f)
-
-  -- which is a rack
-  target-lt : free places g ≡ false → target table places g < length racks
-  unfolding rackTo
-  target-lt f = rw (target-is f) (rack-lt racks (dest places g) (legal-dest racks places (t .legal) g l f))
-
-  -- by the table the card is away exactly where it is
-  sends-is : sends table places g ≡ away racks places g
-  unfolding sends away onRack
-  sends-is = by-test (free places g)
-      (λ f. and-off-l _ (ap not f) ∙ sym (and-off-l _ (ap not f)))
-      (λ f. rw (t .filled g l, target-is f))
-
   -- the table has slot g's rack, which is one
   here-lt : getD table g 0 < length racks
   here-lt = omega (arith, t .filled g l, rack-lt racks g l)
+
+  -- the table has the rack where slot g's card must end
+  target-is : free places g ≡ false → target table places g ≡ rackTo racks places g
+  unfolding target namedSlot free rackTo
+  target-is f = rw f (t .filled (dest places g) (legal-dest racks places (t .legal) g l f))
+
+  -- of a free slot, its own
+  target-free : free places g ≡ true → target table places g ≡ getD table g 0
+  unfolding target namedSlot free
+  target-free f = rw f
+
+  -- which is a rack
+  target-lt : target table places g < length racks
+  unfolding rackTo
+  target-lt = by-test (free places g)
+      (λ f. omega (arith, target-free f, here-lt))
+      (λ f. rw (target-is f) (rack-lt racks (dest places g) (legal-dest racks places (t .legal) g l f)))
+
+  -- the entry names a slot
+  named-lt : namedSlot g (dest places g) < 4096
+  unfolding namedSlot free
+  named-lt = by-test (free places g)
+      (λ f. rw f (omega (arith, t .small)))
+      (λ f. rw f (omega (arith, legal-dest racks places (t .legal) g l f, t .small)))
+
+  -- by the table the card is away exactly where it is
+  sends-is : sends table places g ≡ away racks places g
+  unfolding sends away onRack _and_
+  sends-is = by-test (free places g)
+      (λ f. ap not (eq-eqb (getD table g 0) (target table places g) (sym (target-free f))) ∙ sym (and-off-l _ (ap not f)))
+      (λ f. rw (f, t .filled g l, target-is f))
 
   -- the free slots with slot g counted
   pub rooms-more : (rooms rooms′ : List ℕ) → RoomsTo racks places g rooms → rooms′ ≡ roomsWith places table g rooms → RoomsTo racks places (g + 1) rooms′
@@ -113,19 +134,15 @@ module _ (racks : List Rack) (places table : List ℕ) (t : Tabled racks places 
       }
 
   module _ (queue tails : List ℕ) (q : Queueing racks places g queue tails) where
+    -- the tail of that rack's queue
+    target-tail : getD tails (target table places g) 0 ≡ tailAt racks places g (target table places g)
+    target-tail = q .tails-are (target table places g) target-lt
+
     -- a card that is away
     module _ (a : away racks places g ≡ true) where
-      -- must end on a rack
-      sent-lt : target table places g < length racks
-      sent-lt = target-lt (away-held racks places g a)
-
-      -- to which it is away
+      -- is away to the rack where it must end
       sent-to : awayTo racks places (target table places g) g ≡ true
       sent-to = to-is racks places (target table places g) g a (sym (target-is (away-held racks places g a)))
-
-      -- and finds that rack's tail
-      sent-tail : getD tails (target table places g) 0 ≡ tailAt racks places g (target table places g)
-      sent-tail = q .tails-are (target table places g) sent-lt
 
     -- the slot can be queued
     pub queueable : (rooms : List ℕ) → RoomsTo racks places g rooms → Queueable table places g tails rooms
@@ -135,26 +152,29 @@ module _ (racks : List Rack) (places table : List ℕ) (t : Tabled racks places 
           small = omega (arith, t .small);
           rack = omega (arith, here-lt, t .few);
           rooms-fit = omega (arith, c .few (getD table g 0), t .small);
-          named = λ f. omega (arith, legal-dest racks places (t .legal) g l f, t .small);
-          racked = λ f. omega (arith, target-lt f, t .few);
-          fits = λ s.
-              let a = sym sends-is ∙ s in
-              let p : ℕ = target table places g in
-              omega (arith, sent-tail a, tail-room racks places p (t .legal) g l (sent-to a), end-le racks p (sent-lt a), t .small);
+          named = named-lt;
+          racked = omega (arith, target-lt, t .few);
+          fits = omega (arith, target-tail, room-at (target table places g) target-lt, end-le racks (target table places g) target-lt, t .small);
         }
 
-    -- no card is away from slot g: the queues stay
-    queueing-kept : away racks places g ≡ false → Queueing racks places (g + 1) queue tails
-    queueing-kept a =
+    -- no card is away from slot g: the store is behind rack p's queue, and the queues stay
+    queueing-kept : (p : ℕ) → p < length racks → away racks places g ≡ false → Queueing racks places (g + 1) (set queue (tailAt racks places g p) g) tails
+    queueing-kept p h a =
         record {
-          tails-are = λ p m. q .tails-are p m ∙ sym (tail-off racks places p g (none p));
-          waits = λ p m. rw (tail-off racks places p g (none p), select-off g (awayTo racks places p) (none p)) (q .waits p m);
-          queue-long = q .queue-long;
+          tails-are = λ k m. q .tails-are k m ∙ sym (tail-off racks places k g (none k));
+          waits = λ k m. rw (tail-off racks places k g (none k), select-off g (awayTo racks places k) (none k)) (behind k ∙ q .waits k m);
+          queue-long = length-set queue (tailAt racks places g p) g ∙ q .queue-long;
           tails-long = q .tails-long;
         }
       where
-        none : (p : ℕ) → awayTo racks places p g ≡ false
-        none p = off (λ s. no-way (to-away racks places p g s) a)
+        none : (k : ℕ) → awayTo racks places k g ≡ false
+        none k = off (λ s. no-way (to-away racks places k g s) a)
+
+        behind : (k : ℕ) → part (set queue (tailAt racks places g p) g) (base racks k) (tailAt racks places g k) ≡ part queue (base racks k) (tailAt racks places g k)
+        behind k = elim (ℕ-discrete k p) [
+          | yes e ↦ rw e (part-before queue (base racks p) (tailAt racks places g p) (tailAt racks places g p) g (omega arith))
+          | no e ↦ other-kept queue p k g h (λ x. e (sym x))
+        ]
 
     -- a card is away to rack p: its slot is the last of p's queue
     queueing-sent : (p : ℕ) → p < length racks → awayTo racks places p g ≡ true
@@ -168,7 +188,7 @@ module _ (racks : List Rack) (places table : List ℕ) (t : Tabled racks places 
           waits = λ k n. elim (ℕ-discrete k p) [
             | yes e ↦ rw (e, tail-on racks places p g a, select-on g (awayTo racks places p) a, ← q .waits p m)
                 (part-push queue (base racks p) (tailAt racks places g p) g (tail-up racks places p g) room)
-            | no e ↦ rw (tail-off racks places k g (none k e), select-off g (awayTo racks places k) (none k e)) (other-kept queue p k g (λ x. e (sym x)) a ∙ q .waits k n)
+            | no e ↦ rw (tail-off racks places k g (none k e), select-off g (awayTo racks places k) (none k e)) (other-kept queue p k g m (λ x. e (sym x)) ∙ q .waits k n)
           ];
           queue-long = length-set queue (tailAt racks places g p) g ∙ q .queue-long;
           tails-long = length-set tails p (tailAt racks places g p + 1) ∙ q .tails-long;
@@ -178,12 +198,12 @@ module _ (racks : List Rack) (places table : List ℕ) (t : Tabled racks places 
         none k d = off (λ s. d (sym (to-rack racks places k g s) ∙ to-rack racks places p g a))
 
         room : tailAt racks places g p < length queue
-        room = omega (arith, q .queue-long, tail-room racks places p (t .legal) g l a, end-le racks p m, t .small)
+        room = omega (arith, q .queue-long, room-at p m, end-le racks p m, t .small)
 
     -- the queues after slot g
     pub queueing-more : (rooms queue′ tails′ rooms′ : List ℕ) → Queued table places g queue tails rooms queue′ tails′ rooms′ → Queueing racks places (g + 1) queue′ tails′
-    unfolding queued tailed
+    unfolding queued tailed oneMore
     queueing-more rooms queue′ tails′ rooms′ s = rw (s .queue-is, s .tails-are, sends-is)
         (by-test (away racks places g)
-        (λ a. rw (a, sent-tail a) (queueing-sent (target table places g) (sent-lt a) (sent-to a)))
-        (λ a. rw a (queueing-kept a)))
+        (λ a. rw (a, target-tail) (queueing-sent (target table places g) target-lt (sent-to a)))
+        (λ a. rw (a, target-tail) (queueing-kept (target table places g) target-lt a)))

@@ -1,54 +1,56 @@
 -- The pass that fills the queues and counts free slots, a slot at a time, as the code makes it. Assumes nothing: these are definitions.
 use mathlib.Core.Path.{_≡_}
-use mathlib.Core.Bool.{Bool, true, false, not}
+use mathlib.Core.Bool.{Bool, not}
 use mathlib.Core.List.{List}
 use Prim.Native.Nat.{ℕ, _+_, _<_}
 use lib.Dec.{eqb}
 use lib.ListN.{length, getD, set}
-use Rattle.counting.specs.Tests.{_and_, pick}
+use Rattle.counting.specs.Tests.{pick}
 use Rattle.racks.specs.Racks.{Rack, base}
 use Rattle.racks.specs.Table.{dest, free}
+use Rattle.tables.specs.Tables.{namedSlot}
 
 -- the list has each rack's first slot
 pub record Firsts (racks : List Rack) (list : List ℕ) : Type 0 where
   pub slots-are : (p : ℕ) → p < length racks → getD list p 0 ≡ base racks p
   pub long : length list ≡ 64
 
--- by a table of each slot's rack: the rack where the card in slot g must end
+-- by a table of each slot's rack: the rack where the card in slot g must end; of a free slot, its own
 unfoldable pub target : List ℕ → List ℕ → ℕ → ℕ
-target table places g = getD table (dest places g) 0
+target table places g = getD table (namedSlot g (dest places g)) 0
 
 -- slot g has a card that is away
 unfoldable pub sends : List ℕ → List ℕ → ℕ → Bool
-sends table places g = not (free places g) and not (eqb (getD table g 0) (target table places g))
+sends table places g = not (eqb (getD table g 0) (target table places g))
 
--- the queues after slot g: it stands at the tail of its card's queue
+-- the queues after slot g: it stands at the tail of that rack's queue. Where no card is away the tail stays, so that this is behind the
+-- queue, where nothing is read
 unfoldable pub queued : List ℕ → List ℕ → ℕ → List ℕ → List ℕ → List ℕ
-queued table places g queue tails = pick (sends table places g) (set queue (getD tails (target table places g) 0) g) queue
-
--- the tails after slot g: that queue is one longer
-unfoldable pub tailed : List ℕ → List ℕ → ℕ → List ℕ → List ℕ
-tailed table places g tails =
-    let p = target table places g in
-    pick (sends table places g) (set tails p (getD tails p 0 + 1)) tails
+queued table places g queue tails = set queue (getD tails (target table places g) 0) g
 
 -- one more at k
 unfoldable pub oneMore : List ℕ → ℕ → List ℕ
 oneMore counts k = set counts k (getD counts k 0 + 1)
 
+-- the tails after slot g: that queue is one longer
+unfoldable pub tailed : List ℕ → List ℕ → ℕ → List ℕ → List ℕ
+tailed table places g tails =
+    let p = target table places g in
+    pick (sends table places g) (oneMore tails p) tails
+
 -- the free slots of each rack with slot g counted: a free slot adds one
 unfoldable pub roomsWith : List ℕ → List ℕ → ℕ → List ℕ → List ℕ
 roomsWith places table g rooms = pick (free places g) (oneMore rooms (getD table g 0)) rooms
 
--- slot g can be queued or counted: it and its card's destination are slots, the table has racks there, its card's queue and its rack's count have room
+-- slot g can be queued and counted: it and its card's destination are slots, the table has racks there, its card's queue and its rack's count have room
 pub record Queueable (table places : List ℕ) (g : ℕ) (tails rooms : List ℕ) : Type 0 where
   pub slot : g < length places
   pub small : g < 4096
   pub rack : getD table g 0 < 64
   pub rooms-fit : getD rooms (getD table g 0) 0 < 65535
-  pub named : free places g ≡ false → dest places g < 4096
-  pub racked : free places g ≡ false → target table places g < 64
-  pub fits : sends table places g ≡ true → getD tails (target table places g) 0 < 4096
+  pub named : namedSlot g (dest places g) < 4096
+  pub racked : target table places g < 64
+  pub fits : getD tails (target table places g) 0 < 4096
 
 -- what slot g does to the queues, their tails and the counts of free slots
 pub record Queued (table places : List ℕ) (g : ℕ) (queue tails rooms queue′ tails′ rooms′ : List ℕ) : Type 0 where

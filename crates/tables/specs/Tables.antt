@@ -6,10 +6,15 @@ use lib.Dec.{eqb}
 use lib.ListN.{length, getD}
 use Rattle.counting.specs.Tests.{bit, pick}
 use Rattle.counting.specs.Checks.{first, refusal, done}
+use Rattle.racks.specs.Limits.{FREE}
 use Rattle.racks.specs.Racks.{Rack, slots, rackOf, isUser}
 use Rattle.racks.specs.Numbers.{badBytes, tableChecks, cardChecks}
 use Rattle.racks.specs.Job.{racksOf}
 use Rattle.racks.specs.declared.Job.{Job}
+
+-- the slot that entry x of slot g names; where slot g is free, itself
+unfoldable pub namedSlot : ℕ → ℕ → ℕ
+namedSlot g x = pick (eqb x FREE) g x
 
 -- the table has each slot's rack
 abbrev pub Filled : List Rack → List ℕ → Type 0

@@ -5,11 +5,32 @@ ghost use mathlib.Core.Bool.{true};
 ghost use Prim.Native.Nat.{ℕ, _≤_, _<_};
 ghost use lib.ListN.{length};
 ghost use Rattle.racks.specs.Job.{racksOf, Sound};
-ghost use Rattle.tables.specs.Tables.{Laid, Marked, Between, Checked, CardsChecked};
+ghost use Rattle.tables.specs.Tables.{namedSlot, Laid, Marked, Between, Checked, CardsChecked};
 ghost use Rattle.tables.specs.Marks.{Entered, entriesNumber, worse};
 ghost use Rattle.tables.specs.Once.{placeOf, MarkTaken, Opened, OnceMarked};
-ghost use Rattle.counting.specs.Tests.{_and_};
+ghost use Rattle.counting.specs.Tests.{bit, _and_};
 use racks::Job;
+
+// The slot that an entry names; a free slot's own. Two returns that become one choice, not a branch: in a table where free and taken slots
+// alternate at random none could be foretold.
+pub fn named_slot(x: u16, g: usize) -> usize
+    ensures { λ r. ⌜ r ≡ namedSlot g x ⌝ }
+{
+    if x == Job::FREE {
+        return g;
+    }
+    x as usize
+}
+
+// 1 where a test passes, else 0: what is added in a pass without a branch.
+pub fn one_if(test: bool) -> u16
+    ensures { λ r. ⌜ r ≡ bit test ⌝ }
+{
+    if test {
+        return 1;
+    }
+    0
+}
 
 // One value from `low` up to `high` in a table of bytes.
 pub fn fill(table: &mut [u8; 4096], low: usize, high: usize, value: u8)

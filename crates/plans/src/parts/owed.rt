@@ -11,7 +11,8 @@ ghost use Rattle.phases.specs.Plan.{plan};
 ghost use Rattle.plans.specs.Owed.{Tallied, Countable, Counted, grant, grants};
 use racks::Job;
 
-// Counts slot g: a free slot for its rack, a card that is away for its rack and the one that it is bound for.
+// Counts slot g: a free slot for its rack, a card that is away for its rack and the one that it is bound for. Each count is stored, with
+// 0 or 1 added: where free and taken slots alternate at random no branch on a slot could be foretold.
 fn count_slot(
     places: &[u16],
     table: &[u8; 4096],
@@ -22,18 +23,12 @@ fn count_slot(
     requires { ⌜ Countable (now places) (now table) g (now owes) (now rooms) ⌝ }
     ensures { λ _. ⌜ Counted (now (places .entry)) (now (table .entry)) g (now (owes .entry)) (now (rooms .entry)) (now (owes .exit)) (now (rooms .exit)) ⌝ }
 {
-    let from = table[g] as usize;
     let x = places[g];
-    if x == Job::FREE {
-        rooms[from] = rooms[from] + 1;
-        return;
-    }
-    let to = table[x as usize] as usize;
-    if from == to {
-        return;
-    }
+    let from = table[g] as usize;
+    let to = table[tables::parts::named_slot(x, g)] as usize;
     let k = from * 64 + to;
-    owes[k] = owes[k] + 1;
+    owes[k] = owes[k] + tables::parts::one_if(from != to);
+    rooms[from] = rooms[from] + tables::parts::one_if(x == Job::FREE);
 }
 
 // What each rack of a legal table owes each other, and how many free slots each has: one pass over the slots.

@@ -27,7 +27,9 @@ fn first_slots(job: Job) -> [u16; 64]
     list
 }
 
-// One slot of the pass: a free slot is counted for its rack; where its card is away, the slot goes to the tail of its card's queue.
+// One slot of the pass: a free slot is counted for its rack; where its card is away, the slot goes to the tail of its card's queue. Each
+// store is made whatever the slot holds, since no branch on it could be foretold where free and taken slots alternate at random: where no
+// card is away the tail stays before it.
 fn queue_slot(
     places: &[u16],
     table: &[u8; 4096],
@@ -40,19 +42,12 @@ fn queue_slot(
     ensures { λ _. ⌜ Queued (now (table .entry)) (now (places .entry)) g (now (queue .entry)) (now (tails .entry)) (now (rooms .entry)) (now (queue .exit)) (now (tails .exit)) (now (rooms .exit)) ⌝ }
 {
     let x = places[g];
-    if x == Job::FREE {
-        let here = table[g] as usize;
-        rooms[here] = rooms[here] + 1;
-        return;
-    }
-    let there = table[x as usize];
-    if table[g] == there {
-        return;
-    }
-    let p = there as usize;
-    let tail = tails[p];
+    let here = table[g] as usize;
+    let there = table[tables::parts::named_slot(x, g)] as usize;
+    let tail = tails[there];
     queue[tail as usize] = g as u16;
-    tails[p] = tail + 1;
+    tails[there] = tail + tables::parts::one_if(here != there);
+    rooms[here] = rooms[here] + tables::parts::one_if(x == Job::FREE);
 }
 
 // The queues and marks of a legal table: every rack's cards wait in its queue, its mark is its first slot, and its free slots are counted.

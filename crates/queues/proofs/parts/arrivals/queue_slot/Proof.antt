@@ -1,8 +1,21 @@
 use borrow.Author.Needs.{needs}
 use native.Mathlib.Omega.{arith}
-use Rattle.queues.proofs.QueueSlot.{slot-named, slot-racked, slot-fits, queued-free, queued-home, queued-away}
+use mathlib.Core.Bool.{not}
+use lib.Dec.{eqb}
+use lib.ListN.{getD}
+use Rattle.racks.specs.Limits.{FREE}
+use Rattle.racks.specs.Table.{dest}
+use Rattle.queues.proofs.QueueSlot.{bit-le, slot-racked, slot-fits, queued-slot}
 use Rattle.queues.proofs.parts.arrivals.queue_slot.Statement.{statement}
 use Rattle.queues.proofs.parts.arrivals.queue_slot.Tie as tie
+
+-- the card's rack has a queue
+racked : tie.Need-element-copy-out-tail
+racked c = slot-racked _ _ _ _ (c .before .named-slot .ensures) _ _ (c .before .before .before .before .before .pre)
+
+-- and the queue has room
+fits : tie.Need-element-write-queue
+fits c = slot-fits _ _ _ _ (c .before .before .named-slot .ensures) _ _ (c .before .before .before .before .before .before .pre)
 
 mul-x : tie.Need-mul-x
 mul-x c = search needs
@@ -16,46 +29,14 @@ element-copy-out-here c = search needs
 cast-here : tie.Need-cast-here
 cast-here c = search needs
 
-mul-rooms : tie.Need-mul-rooms
-mul-rooms c = search needs
-
-element-copy-out-rooms : tie.Need-element-copy-out-rooms
-element-copy-out-rooms c = search needs
-
-add-rooms : tie.Need-add-rooms
-add-rooms c = search needs
-
-mul-rooms-2 : tie.Need-mul-rooms-2
-mul-rooms-2 c = search needs
-
-element-write-rooms : tie.Need-element-write-rooms
-element-write-rooms c = search needs
-
-returns : tie.Need-returns
-returns c = queued-free _ _ _ _ _ _ (c .before .before .if1 .taken)
-
-cast-there : tie.Need-cast-there
-cast-there c = omega (arith, slot-named _ _ _ _ _ (c .before .before .pre) (c .if1 .left))
+named-slot-requires : tie.Need-named-slot-requires
+named-slot-requires c κs = search needs
 
 element-copy-out-there : tie.Need-element-copy-out-there
-element-copy-out-there c = slot-named _ _ _ _ _ (c .before .before .pre) (c .if1 .left)
+element-copy-out-there c = search needs
 
-element-copy-out-if2 : tie.Need-element-copy-out-if2
-element-copy-out-if2 c = search needs
-
-returns-2 : tie.Need-returns-2
-returns-2 c = queued-home _ _ _ _ _ _ (c .before .before .before .if1 .left) (c .if2 .taken)
-
--- the card's rack has a queue
-racked : tie.Need-element-copy-out-tail
-racked c = slot-racked _ _ _ _ _ (c .before .before .before .before .before .pre) (c .before .before .before .if1 .left)
-
--- and the queue has room
-fits : tie.Need-element-write-queue
-fits c = slot-fits _ _ _ _ _ (c .before .before .before .before .before .before .pre) (c .before .before .before .before .if1 .left) (c .before .if2 .left)
-
-cast-p : tie.Need-cast-p
-cast-p c = omega (arith, racked c)
+cast-there : tie.Need-cast-there
+cast-there c = omega (arith, racked c)
 
 mul-tail : tie.Need-mul-tail
 mul-tail c = omega (arith, racked c)
@@ -75,17 +56,43 @@ mul-queue c = omega (arith, fits c)
 element-write-queue : tie.Need-element-write-queue
 element-write-queue c = fits c
 
+one-if-requires : tie.Need-one-if-requires
+one-if-requires c κs = search needs
+
 add-tails : tie.Need-add-tails
-add-tails c = omega (arith, fits c)
+add-tails c =
+    let s = c .before .before .before .before .before .before .before in
+    let n = c .before .before .before .named-slot .result in
+    omega (arith, fits (c .before), bit-le _ (not (eqb (getD (s .args .table .now) (s .args .g) 0) (getD (s .args .table .now) n 0))) (c .one-if .ensures))
 
 mul-tails : tie.Need-mul-tails
-mul-tails c = omega (arith, racked (c .before))
+mul-tails c = omega (arith, racked (c .before .before))
 
 element-write-tails : tie.Need-element-write-tails
-element-write-tails c = racked (c .before)
+element-write-tails c = racked (c .before .before)
 
-returns-3 : tie.Need-returns-3
-returns-3 c = queued-away _ _ _ _ _ _ (c .before .before .before .before .if1 .left) (c .before .if2 .left)
+mul-rooms : tie.Need-mul-rooms
+mul-rooms c = search needs
+
+element-copy-out-rooms : tie.Need-element-copy-out-rooms
+element-copy-out-rooms c = search needs
+
+one-if-requires-2 : tie.Need-one-if-requires-2
+one-if-requires-2 c κs = search needs
+
+add-rooms : tie.Need-add-rooms
+add-rooms c =
+    let s = c .before .before .before .before .before .before .before .before .before in
+    omega (arith, s .pre .rooms-fit, bit-le _ (eqb (dest (s .args .places .now) (s .args .g)) FREE) (c .one-if2 .ensures))
+
+mul-rooms-2 : tie.Need-mul-rooms-2
+mul-rooms-2 c = search needs
+
+element-write-rooms : tie.Need-element-write-rooms
+element-write-rooms c = search needs
+
+returns : tie.Need-returns
+returns c = queued-slot _ _ _ _ (c .before .before .before .before .before .named-slot .ensures) _ _ _ _ _ (c .before .before .one-if .ensures) (c .one-if2 .ensures)
 
 pub queue-slot-spec : {M : Type 1} → statement M
 queue-slot-spec =
@@ -95,24 +102,23 @@ queue-slot-spec =
     shared-slice-read-x
     element-copy-out-here
     cast-here
-    mul-rooms
-    element-copy-out-rooms
-    add-rooms
-    mul-rooms-2
-    element-write-rooms
-    returns
-    cast-there
+    named-slot-requires
     element-copy-out-there
-    element-copy-out-if2
-    returns-2
-    cast-p
+    cast-there
     mul-tail
     element-copy-out-tail
     cast-queue
     cast-queue-2
     mul-queue
     element-write-queue
+    one-if-requires
     add-tails
     mul-tails
     element-write-tails
-    returns-3)
+    mul-rooms
+    element-copy-out-rooms
+    one-if-requires-2
+    add-rooms
+    mul-rooms-2
+    element-write-rooms
+    returns)
