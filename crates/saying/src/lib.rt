@@ -1,4 +1,4 @@
-// What every case prints first.
+// What the programs that run paper cards print first.
 use racks::Answer;
 
 // A name, the number given, and the counts of phases, moves and copies.
