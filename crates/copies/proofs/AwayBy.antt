@@ -1,24 +1,23 @@
 -- Which cards are away, by the table of each slot's rack. Assumes nothing.
 use mathlib.Core.Path.{_≡_, refl, sym, ap, _∙_}
-use mathlib.Core.Logic.{_≢_}
 use mathlib.Core.Bool.{Bool, true, false, not}
 use mathlib.Core.List.{List}
 use Prim.Native.Nat.{ℕ, zero, suc, _+_, _<_}
 use native.Mathlib.Omega.{arith}
 use lib.Dec.{eqb}
 use lib.ListN.{length, getD}
-use borrow.Author.Tests.{eq-eqb, ne-eqb}
-use Rattle.counting.specs.Tests.{_and_}
+use borrow.Author.Tests.{eq-eqb}
+use Rattle.counting.specs.Tests.{_and_, _or_}
 use Rattle.counting.specs.Count.{some}
-use Rattle.counting.proofs.Tests.{by-test, or-none, and-off-l}
-use Rattle.counting.proofs.Some.{some-hit, some-more}
+use Rattle.counting.proofs.Tests.{by-test}
+use Rattle.counting.proofs.Some.{some-more}
 use Rattle.racks.specs.Limits.{FREE}
 use Rattle.racks.specs.Racks.{Rack, slots}
 use Rattle.racks.specs.Table.{dest, free, rackTo, onRack, away}
 use Rattle.racks.specs.Numbers.{someAway}
 use Rattle.racks.specs.Legal.{Legal}
 use Rattle.racks.proofs.LegalTable.{legal-dest}
-use Rattle.tables.specs.Tables.{Filled}
+use Rattle.tables.specs.Tables.{namedSlot, Filled}
 use Rattle.copies.specs.Writes.{awayBy, someAwayBy}
 
 some-cong : (n : ℕ) (f g : ℕ → Bool) → ((k : ℕ) → k < n → f k ≡ g k) → some n f ≡ some n g
@@ -27,29 +26,21 @@ some-cong zero f g h = refl
 some-cong (suc n) f g h = rw (some-cong n f g (λ k l. h k (omega arith)), h n (omega arith))
 
 module _ (table places : List ℕ) (g : ℕ) where
-  -- no card is away from a free slot
-  pub by-free : dest places g ≡ FREE → false ≡ awayBy table places g
-  unfolding awayBy free
-  by-free e = sym (and-off-l _ (ap not (eq-eqb (dest places g) FREE e)))
+  -- a card is away where its slot's rack is not that of its destination; a free slot is on its own
+  pub by-named : (to : ℕ) → to ≡ namedSlot g (dest places g) → not (eqb (getD table g 0) (getD table to 0)) ≡ awayBy table places g
+  unfolding awayBy namedSlot free _and_
+  by-named to e = by-test (eqb (dest places g) FREE)
+      (λ f. let q : to ≡ g = e ∙ rw f in rw (f, q, eq-eqb (getD table g 0) (getD table g 0) refl))
+      (λ f. let q : to ≡ dest places g = e ∙ rw f in rw (f, q))
 
-  -- a card is away where its slot's rack is not that of its destination
-  pub by-racks : dest places g ≢ FREE → (to : ℕ) → to ≡ dest places g → not (eqb (getD table g 0) (getD table to 0)) ≡ awayBy table places g
-  unfolding awayBy free _and_
-  by-racks q to e = rw (ne-eqb (dest places g) FREE q, e)
+  -- one slot more
+  pub some-next : (found away : Bool) → found ≡ some g (awayBy table places) → away ≡ awayBy table places g → (found or away) ≡ some (g + 1) (awayBy table places)
+  some-next found away e f = rw (e, f) (sym (some-more g (awayBy table places)))
 
-  -- where one is, some is
-  pub some-here : g < length places → awayBy table places g ≡ true → true ≡ someAwayBy table places
+  -- all slots
+  pub some-whole : (found : Bool) → g ≡ length places → found ≡ some g (awayBy table places) → found ≡ someAwayBy table places
   unfolding someAwayBy
-  some-here l e = sym (some-hit (length places) (awayBy table places) g l e)
-
-  -- one slot more where none is
-  pub none-more : some g (awayBy table places) ≡ false → awayBy table places g ≡ false → some (g + 1) (awayBy table places) ≡ false
-  none-more e f = some-more g (awayBy table places) ∙ or-none e f
-
-  -- none is away, from all slots
-  pub none-all : g ≡ length places → some g (awayBy table places) ≡ false → false ≡ someAwayBy table places
-  unfolding someAwayBy
-  none-all e f = sym (ap (λ (n : ℕ). some n (awayBy table places)) (sym e) ∙ f)
+  some-whole found e f = f ∙ ap (λ (n : ℕ). some n (awayBy table places)) e
 
 -- by a table that has each slot's rack, the cards that are away are away
 module _ (racks : List Rack) (table places : List ℕ) (filled : Filled racks table) (v : Legal racks places) where

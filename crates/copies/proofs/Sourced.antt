@@ -14,23 +14,27 @@ use Rattle.racks.specs.Limits.{FREE}
 use Rattle.racks.specs.Table.{dest, names}
 use Rattle.copies.specs.Copies.{source}
 use Rattle.copies.specs.Chains.{Chained}
-use Rattle.copies.specs.Writes.{Sources, putSource}
+use Rattle.tables.specs.Tables.{namedSlot}
+use Rattle.copies.specs.Writes.{Sources, SourcesNoted, FrontCopied, putSource}
 use Rattle.copies.proofs.Chains.{next-is}
 
 -- the sources among the first g slots are in the table
 pub record SourcesTo (places : List ℕ) (g : ℕ) (table : List ℕ) : Type 0 where
   pub sources : (d : ℕ) → d < 4096 → getD table d 0 ≡ seek FREE g (names places d)
-  pub long : length table ≡ 4096
-
--- a free slot is no source
-pub put-source-free : (table : List ℕ) (x g : ℕ) → x ≡ FREE → table ≡ putSource table x g
-unfolding putSource
-put-source-free table x g e = rw (eq-eqb x FREE e)
+  pub long : length table ≡ 4097
 
 -- the card in slot g makes g the source of its destination
-pub put-source-is : (table : List ℕ) (x g to from : ℕ) → x ≢ FREE → to ≡ x → from ≡ g → set table to from ≡ putSource table x g
+pub put-source-is : (table : List ℕ) (x g to : ℕ) → to ≡ namedSlot 4096 x → set table to g ≡ putSource table x g
 unfolding putSource
-put-source-is table x g to from q e f = rw (ne-eqb x FREE q, e, f)
+put-source-is table x g to e = rw e
+
+-- an entry that is free, or names a slot, has a place in the table
+pub source-place : (x : ℕ) → (x ≢ FREE → x < 4096) → namedSlot 4096 x < 4097
+unfolding namedSlot
+source-place x h = elim (ℕ-discrete x FREE) [
+  | yes e ↦ rw (eq-eqb x FREE e) (omega arith)
+  | no q ↦ rw (ne-eqb x FREE q) (omega (arith, h q))
+]
 
 seek-on : (places : List ℕ) (g d : ℕ) → dest places g ≡ d → seek FREE (g + 1) (names places d) ≡ g
 unfolding seek names
@@ -42,17 +46,20 @@ seek-off places g d q = rw (add-one g, ne-eqb (dest places g) d q)
 
 module _ (places : List ℕ) where
   -- at first there are none
-  pub sources-none : SourcesTo places 0 (replicate 4096 65535)
+  pub sources-none : SourcesTo places 0 (replicate 4097 65535)
   unfolding seek
-  sources-none = record { sources = λ d l. getD-replicate 4096 d 65535 0 l; long = length-replicate {A = ℕ} 4096 65535 }
+  sources-none = record { sources = λ d l. getD-replicate 4097 d 65535 0 (omega arith); long = length-replicate {A = ℕ} 4097 65535 }
 
   -- one slot's entry more
   pub sources-more : (g : ℕ) (table after : List ℕ) → SourcesTo places g table → after ≡ putSource table (dest places g) g → SourcesTo places (g + 1) after
-  unfolding putSource
+  unfolding putSource namedSlot
   sources-more g table after s e = elim (ℕ-discrete (dest places g) FREE) [
     | yes f ↦
-        let same : after ≡ table = e ∙ rw (eq-eqb (dest places g) FREE f) in
-        rw same (record { sources = λ d l. s .sources d l ∙ sym (seek-off places g d (λ i. omega arith)); long = s .long })
+        let put : after ≡ set table 4096 g = e ∙ rw (eq-eqb (dest places g) FREE f) in
+        rw put (record {
+          sources = λ d l. getD-set-other table 4096 d g 0 (λ i. omega arith) ∙ s .sources d l ∙ sym (seek-off places g d (λ i. omega arith));
+          long = length-set table 4096 g ∙ s .long;
+        })
     | no q ↦
         let put : after ≡ set table (dest places g) g = e ∙ rw (ne-eqb (dest places g) FREE q) in
         rw put (record {
@@ -65,10 +72,30 @@ module _ (places : List ℕ) where
   ]
 
   -- after all entries the table is the inverse
-  pub sources-all : (g : ℕ) (table : List ℕ) → g ≡ length places → SourcesTo places g table → Sources places table
+  pub sources-all : (g : ℕ) (table : List ℕ) → g ≡ length places → SourcesTo places g table → SourcesNoted places table
   unfolding source
-  sources-all g table e s = record { sources = λ d l. s .sources d l ∙ ap (λ (n : ℕ). seek FREE n (names places d)) e; long = s .long }
+  sources-all g table e s = record { sources = λ d l. s .sources d l ∙ ap (λ (n : ℕ). seek FREE n (names places d)) e }
+
+-- copied, it is the inverse still
+pub sources-copied : (places noted table : List ℕ) → SourcesNoted places noted → FrontCopied 4096 noted table → Sources places table
+sources-copied places noted table s f = record { sources = λ d l. f .numbers d l ∙ s .sources d l; long = f .long }
+
+-- one number more
+pub copied-more : (d : ℕ) (noted table : List ℕ) → d < length table → ((k : ℕ) → k < d → getD table k 0 ≡ getD noted k 0)
+    → (k : ℕ) → k < d + 1 → getD (set table d (getD noted d 0)) k 0 ≡ getD noted k 0
+copied-more d noted table l h k m = elim (ℕ-discrete k d) [
+  | yes e ↦ rw e (getD-set-same table d (getD noted d 0) 0 l)
+  | no q ↦ getD-set-other table d k (getD noted d 0) 0 q ∙ h k (omega arith)
+]
 
 -- a card's destination is a slot of the table
 pub entry-low : {places : List ℕ} → Chained places → (g : ℕ) → g < length places → dest places g ≢ FREE → dest places g < length places
 entry-low {places} ok g l q = let e = next-is places g l in rw e at (ok .below g (rw e q))
+
+-- so the slot that an entry names is one, and a free slot itself
+pub named-low : {places : List ℕ} → Chained places → (g : ℕ) → g < length places → namedSlot g (dest places g) < length places
+unfolding namedSlot
+named-low {places} ok g l = elim (ℕ-discrete (dest places g) FREE) [
+  | yes e ↦ rw (eq-eqb (dest places g) FREE e) l
+  | no q ↦ rw (ne-eqb (dest places g) FREE q) (entry-low ok g l q)
+]

@@ -12,6 +12,7 @@ use Rattle.counting.specs.Count.{some}
 use Rattle.counting.specs.Lists.{Pair, flat, among, last}
 use Rattle.racks.specs.Limits.{FREE}
 use Rattle.racks.specs.Table.{dest, free}
+use Rattle.tables.specs.Tables.{namedSlot}
 use Rattle.copies.specs.Copies.{next, source, onward, factor, copies, copyList}
 
 -- slot g has a card that is away, by a table of each slot's rack
@@ -27,9 +28,18 @@ pub record Sources (places table : List ℕ) : Type 0 where
   pub sources : (d : ℕ) → d < 4096 → getD table d 0 ≡ source places d
   pub long : length table ≡ 4096
 
--- the table with slot g as the source of slot x; unchanged where x is 65,535
+-- the same in a table with a place more, where what comes from free slots is stored
+pub record SourcesNoted (places table : List ℕ) : Type 0 where
+  pub sources : (d : ℕ) → d < 4096 → getD table d 0 ≡ source places d
+
+-- the first n numbers of one list are all of the other
+pub record FrontCopied (n : ℕ) (from to : List ℕ) : Type 0 where
+  pub numbers : (d : ℕ) → d < n → getD to d 0 ≡ getD from d 0
+  pub long : length to ≡ n
+
+-- the table with slot g as the source of slot x; behind all slots where x is 65,535
 unfoldable pub putSource : List ℕ → ℕ → ℕ → List ℕ
-putSource table x g = pick (eqb x FREE) table (set table x g)
+putSource table x g = set table (namedSlot 4096 x) g
 
 -- the list with copies written from copy `at` on, two numbers each
 unfoldable pub putCopies : List ℕ → ℕ → List Pair → List ℕ

@@ -2,9 +2,9 @@
 ghost use mathlib.Core.Path.{_≡_};
 ghost use Prim.Native.Nat.{_≤_, _<_};
 ghost use lib.ListN.{length};
+ghost use Rattle.counting.specs.Tests.{_or_};
 ghost use Rattle.copies.specs.Chains.{Chained};
 ghost use Rattle.copies.specs.Writes.{awayBy, someAwayBy, Sources, AllWritten};
-use racks::Job;
 
 pub mod shifts;
 
@@ -15,17 +15,24 @@ pub fn wide(x: u16) -> usize
     x as usize
 }
 
-// Whether the card in slot g is away, by the table of each slot's rack.
+// Whether the card in slot g is away, by the table of each slot's rack. A free slot is on its own rack: so there is no branch, which could
+// not be foretold where free and taken slots alternate at random.
 pub fn is_away(racks: &[u8; 4096], places: &[u16], g: usize) -> bool
     requires { ⌜ Chained (now places) × (g < length (now places)) ⌝ }
     ensures { λ r. ⌜ r ≡ awayBy (now (racks .entry)) (now (places .entry)) g ⌝ }
 {
-    let x = places[g];
-    if x == Job::FREE {
-        return false;
-    }
-    let to = wide(x);
+    let to = tables::parts::named_slot(places[g], g);
     racks[g] != racks[to]
+}
+
+// One of two tests.
+fn either(a: bool, b: bool) -> bool
+    ensures { λ r. ⌜ r ≡ (a or b) ⌝ }
+{
+    if a {
+        return true;
+    }
+    b
 }
 
 // Whether some card is away.
@@ -33,14 +40,14 @@ pub fn some_away(racks: &[u8; 4096], places: &[u16]) -> bool
     requires { ⌜ Chained (now places) ⌝ }
     ensures { λ r. ⌜ r ≡ someAwayBy (now (racks .entry)) (now (places .entry)) ⌝ }
 {
+    let mut found = false;
     let mut g: usize = 0;
     while g < places.len() {
-        if is_away(racks, places, g) {
-            return true;
-        }
+        let away = is_away(racks, places, g);
+        found = either(found, away);
         g = g + 1;
     }
-    false
+    found
 }
 
 // The copy list, from the front of `list`; how many copies it has. The sources are left for the caller.

@@ -1,39 +1,58 @@
 // The chains of a table: its inverse, the first slot of a factor, a factor's slots marked and its copies written.
 ghost use mathlib.Core.Path.{_≡_};
-ghost use mathlib.Core.Logic.{_≢_};
 ghost use mathlib.Core.List.{[], _∷_};
 ghost use Prim.Native.Nat.{_+_, _≤_, _<_};
 ghost use lib.ListN.{length};
-ghost use Rattle.racks.specs.Limits.{FREE};
 ghost use Rattle.copies.specs.Copies.{next, onward, head, shift, copies};
 ghost use Rattle.copies.specs.Chains.{Chained};
-ghost use Rattle.copies.specs.Writes.{Sources, putSource, putCopies, steps, Inside, Marked, First, due, Written, Passed, AllWritten};
+ghost use Rattle.tables.specs.Tables.{namedSlot};
+ghost use Rattle.copies.specs.Writes.{Sources, SourcesNoted, FrontCopied, putSource, putCopies, steps, Inside, Marked, First, due, Written, Passed, AllWritten};
 use crate::parts;
 use racks::Job;
 
-// One entry of the inverse: the card in slot g is bound for slot x.
-pub fn put_source(sources: &mut [u16; 4096], x: u16, g: usize)
-    requires { ⌜ (length (now sources) ≡ 4096) × (g < 4096) × (x ≢ FREE → x < 4096) ⌝ }
+// One entry of the inverse: the card in slot g is bound for slot x. Of a free slot it is stored behind all slots, where nothing is read: so
+// there is no branch, which could not be foretold where free and taken slots alternate at random.
+pub fn put_source(sources: &mut [u16; 4097], x: u16, g: usize)
+    requires { ⌜ (length (now sources) ≡ 4097) × (g < 4096) × (namedSlot 4096 x < 4097) ⌝ }
     ensures { λ _. ⌜ now (sources .exit) ≡ putSource (now (sources .entry)) x g ⌝ }
 {
-    if x == Job::FREE {
-        return;
-    }
-    let to = parts::wide(x);
+    let to = tables::parts::named_slot(x, 4096);
     sources[to] = g as u16;
 }
 
-// The inverse of the table, in one pass: for each slot the slot whose card is bound for it.
-pub fn fill_sources(places: &[u16], sources: &mut [u16; 4096])
+// The inverse of the table, in one pass, with a place more for what comes from free slots.
+pub fn note_sources(places: &[u16], sources: &mut [u16; 4097])
     requires { ⌜ Chained (now places) ⌝ }
-    ensures { λ _. ⌜ Sources (now (places .entry)) (now (sources .exit)) ⌝ }
+    ensures { λ _. ⌜ SourcesNoted (now (places .entry)) (now (sources .exit)) ⌝ }
 {
-    *sources = [Job::FREE; 4096];
+    *sources = [Job::FREE; 4097];
     let mut g: usize = 0;
     while g < places.len() {
         put_source(sources, places[g], g);
         g = g + 1;
     }
+}
+
+// The first 4,096 numbers of one table into the other.
+pub fn copy_sources(noted: &[u16; 4097], sources: &mut [u16; 4096])
+    ensures { λ _. ⌜ FrontCopied 4096 (now (noted .entry)) (now (sources .exit)) ⌝ }
+{
+    *sources = [0; 4096];
+    let mut d: usize = 0;
+    while d < 4096 {
+        sources[d] = noted[d];
+        d = d + 1;
+    }
+}
+
+// The inverse of the table: for each slot the slot whose card is bound for it.
+pub fn fill_sources(places: &[u16], sources: &mut [u16; 4096])
+    requires { ⌜ Chained (now places) ⌝ }
+    ensures { λ _. ⌜ Sources (now (places .entry)) (now (sources .exit)) ⌝ }
+{
+    let mut noted = [0u16; 4097];
+    note_sources(places, &mut noted);
+    copy_sources(&noted, sources);
 }
 
 // The first slot of the factor of slot k: where the way back ends, or k itself on a cycle.

@@ -1,55 +1,16 @@
-use Rattle.copies.proofs.Sourced.{SourcesTo, sources-none, sources-more, sources-all, entry-low}
-use lib.ListN.{length}
-use Prim.Native.Nat.{_≤_, _-_}
-use native.Mathlib.Omega.{arith}
+use Rattle.copies.proofs.Sourced.{sources-copied}
 use borrow.Author.Needs.{needs}
 use Rattle.copies.proofs.parts.shifts.fill_sources.Statement.{statement}
 use Rattle.copies.proofs.parts.shifts.fill_sources.Tie as tie
 
-abbrev Inv-loop : tie.InvT-loop
-Inv-loop places sources₀ g₀ sources g = (g ≤ length places) × SourcesTo places g sources
+note-sources-requires : tie.Need-note-sources-requires
+note-sources-requires c κs = search needs
 
-abbrev μ-loop : tie.MeasureT-loop
-μ-loop places sources₀ g₀ sources g = length places - g
+copy-sources-requires : tie.Need-copy-sources-requires
+copy-sources-requires c κs = search needs
 
-loop-holds : tie.Need-loop-holds Inv-loop μ-loop
-loop-holds c = (omega arith, sources-none _)
-
-mul-put-source : tie.Need-mul-put-source Inv-loop μ-loop
-mul-put-source c = search needs
-
-shared-slice-read-put-source : tie.Need-shared-slice-read-put-source Inv-loop μ-loop
-shared-slice-read-put-source c = search needs
-
-put-source-requires : tie.Need-put-source-requires Inv-loop μ-loop
-put-source-requires c κs =
-    let l = c .before .before .before in
-    let s = l .before .before .before in
-    (l .loop .inv .1 .long, omega (arith, s .pre .small), λ q. omega (arith, entry-low (s .pre) (l .loop .g) (omega arith) q, s .pre .small))
-
-add-g : tie.Need-add-g Inv-loop μ-loop
-add-g c = search needs
-
-loop-less : tie.Need-loop-less Inv-loop μ-loop
-loop-less c = search needs
-
-loop-again : tie.Need-loop-again Inv-loop μ-loop
-loop-again c = (omega arith, sources-more _ _ _ _ (c .before .before .before .before .loop .inv .1) (c .put-source .ensures))
-
-returns : tie.Need-returns Inv-loop μ-loop
-returns c = sources-all _ (c .before .loop .g) _ (omega arith) (c .before .loop .inv .1)
+returns : tie.Need-returns
+returns c = sources-copied _ _ _ (c .before .before .before .note-sources .ensures) (c .copy-sources .ensures)
 
 pub fill-sources-spec : {M : Type 1} → statement M
-fill-sources-spec =
-    tie.close
-    (tie.spec
-    Inv-loop
-    μ-loop
-    loop-holds
-    mul-put-source
-    shared-slice-read-put-source
-    put-source-requires
-    add-g
-    loop-less
-    loop-again
-    returns)
+fill-sources-spec = tie.close (tie.spec note-sources-requires copy-sources-requires returns)
