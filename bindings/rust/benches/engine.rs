@@ -10,6 +10,7 @@
 
 #![allow(dead_code)]
 
+pub use seineflute::raw::{Answer, FileAnswer, ListingAnswer, SlotAnswer};
 use std::cmp::Ordering;
 use std::ops::Range;
 
@@ -29,51 +30,6 @@ const NONE: u16 = 65_535;
 /// drop the bounds check of an array of that length.
 const SLOT_MASK: usize = SLOTS - 1;
 const RACK_MASK: usize = RACKS - 1;
-
-#[derive(Clone, Copy, PartialEq, Eq, Debug, Default)]
-pub struct Answer {
-    pub number: usize,
-    pub phases: usize,
-    pub moves: usize,
-    pub copies: usize,
-}
-
-#[derive(Clone, Copy, PartialEq, Eq, Debug, Default)]
-pub struct SlotAnswer {
-    pub number: usize,
-    pub phases: usize,
-    pub moves: usize,
-    pub copies: usize,
-    /// 0 none, 1 user slot, 2 spare
-    pub kind: usize,
-    /// 0 none, 1 free, 2 settled, 3 on its rack but unsettled, 4 away
-    pub state: usize,
-    /// the destination's rack where the card is away, else 0
-    pub rack: usize,
-}
-
-#[derive(Clone, Copy, PartialEq, Eq, Debug, Default)]
-pub struct FileAnswer {
-    pub number: usize,
-    pub phases: usize,
-    pub moves: usize,
-    pub copies: usize,
-    pub racks: usize,
-    pub bytes: usize,
-    pub slots: usize,
-    /// where the card bytes begin in the file
-    pub place: usize,
-}
-
-#[derive(Clone, Copy, PartialEq, Eq, Debug, Default)]
-pub struct ListingAnswer {
-    pub number: usize,
-    pub phases: usize,
-    pub moves: usize,
-    pub copies: usize,
-    /// length of the text
-    pub size: usize,
-}
 
 fn refused(number: usize) -> Answer {
     Answer {

@@ -1,5 +1,5 @@
 //! The ten calls behind one trait, so that one test can run any
-//! implementation of them. Answers are those of `plain`.
+//! implementation of them.
 
 #![allow(dead_code)]
 
@@ -7,8 +7,8 @@ pub mod faulty;
 
 use crate::engine;
 use crate::plain;
-pub use crate::plain::{Answer, FileAnswer, ListingAnswer, SlotAnswer};
 use seineflute::raw;
+pub use seineflute::raw::{Answer, FileAnswer, ListingAnswer, SlotAnswer};
 
 pub trait Mover {
     fn check_table(&self, caps: &[u16], places: &[u16]) -> Answer;
@@ -39,58 +39,23 @@ pub trait Mover {
     fn list_job(&self, file: &[u8], out: &mut [u8]) -> ListingAnswer;
 }
 
-/// A module with the ten calls as a `Mover`. Each module may have answers of
-/// its own: they are taken over field by field.
+/// A module with the ten calls as a `Mover`.
 macro_rules! mover {
     ($name:ident, $module:ident) => {
         #[derive(Clone, Copy)]
         pub struct $name;
 
-        impl $name {
-            fn answer(from: $module::Answer) -> Answer {
-                let $module::Answer {
-                    number,
-                    phases,
-                    moves,
-                    copies,
-                } = from;
-                Answer {
-                    number,
-                    phases,
-                    moves,
-                    copies,
-                }
-            }
-        }
-
         impl Mover for $name {
             fn check_table(&self, caps: &[u16], places: &[u16]) -> Answer {
-                $name::answer($module::check_table(caps, places))
+                $module::check_table(caps, places)
             }
 
             fn slot_question(&self, caps: &[u16], places: &[u16], slot: usize) -> SlotAnswer {
-                let $module::SlotAnswer {
-                    number,
-                    phases,
-                    moves,
-                    copies,
-                    kind,
-                    state,
-                    rack,
-                } = $module::slot_question(caps, places, slot);
-                SlotAnswer {
-                    number,
-                    phases,
-                    moves,
-                    copies,
-                    kind,
-                    state,
-                    rack,
-                }
+                $module::slot_question(caps, places, slot)
             }
 
             fn phase_plan(&self, caps: &[u16], places: &[u16], list: &mut [u16]) -> Answer {
-                $name::answer($module::phase_plan(caps, places, list))
+                $module::phase_plan(caps, places, list)
             }
 
             fn one_move(
@@ -102,7 +67,7 @@ macro_rules! mover {
                 from: usize,
                 to: usize,
             ) -> Answer {
-                $name::answer($module::one_move(caps, b, places, cards, from, to))
+                $module::one_move(caps, b, places, cards, from, to)
             }
 
             fn budgeted_moves(
@@ -113,11 +78,11 @@ macro_rules! mover {
                 cards: &mut [u8],
                 k: usize,
             ) -> Answer {
-                $name::answer($module::budgeted_moves(caps, b, places, cards, k))
+                $module::budgeted_moves(caps, b, places, cards, k)
             }
 
             fn copy_list(&self, caps: &[u16], places: &[u16], list: &mut [u16]) -> Answer {
-                $name::answer($module::copy_list(caps, places, list))
+                $module::copy_list(caps, places, list)
             }
 
             fn shuffle_cards(
@@ -127,7 +92,7 @@ macro_rules! mover {
                 places: &mut [u16],
                 cards: &mut [u8],
             ) -> Answer {
-                $name::answer($module::shuffle_cards(caps, b, places, cards))
+                $module::shuffle_cards(caps, b, places, cards)
             }
 
             fn whole_run(
@@ -137,47 +102,15 @@ macro_rules! mover {
                 places: &mut [u16],
                 cards: &mut [u8],
             ) -> Answer {
-                $name::answer($module::whole_run(caps, b, places, cards))
+                $module::whole_run(caps, b, places, cards)
             }
 
             fn read_file(&self, file: &[u8], caps: &mut [u16], places: &mut [u16]) -> FileAnswer {
-                let $module::FileAnswer {
-                    number,
-                    phases,
-                    moves,
-                    copies,
-                    racks,
-                    bytes,
-                    slots,
-                    place,
-                } = $module::read_file(file, caps, places);
-                FileAnswer {
-                    number,
-                    phases,
-                    moves,
-                    copies,
-                    racks,
-                    bytes,
-                    slots,
-                    place,
-                }
+                $module::read_file(file, caps, places)
             }
 
             fn list_job(&self, file: &[u8], out: &mut [u8]) -> ListingAnswer {
-                let $module::ListingAnswer {
-                    number,
-                    phases,
-                    moves,
-                    copies,
-                    size,
-                } = $module::list_job(file, out);
-                ListingAnswer {
-                    number,
-                    phases,
-                    moves,
-                    copies,
-                    size,
-                }
+                $module::list_job(file, out)
             }
         }
     };

@@ -3,10 +3,12 @@
 //! This is the yardstick of the differential test, so it stays simple: every
 //! phase is planned anew, every list is made in full before anything is
 //! written, and the functions carry the page's own words. Racks are i and p,
-//! slots are g, as on the page.
+//! slots are g, as on the page. Of the proved library it takes the shape of the
+//! answers alone, so that they can be compared.
 
 #![allow(dead_code)]
 
+pub use seineflute::raw::{Answer, FileAnswer, ListingAnswer, SlotAnswer};
 use std::fmt::Write;
 use std::ops::Range;
 
@@ -17,54 +19,6 @@ const MAX_TOTAL: usize = 4_032;
 const MAX_PROGRAM_FILE: usize = 32_768;
 const FREE: u16 = 65_535;
 const HAND: u16 = 65_534;
-
-#[derive(Clone, Copy, PartialEq, Eq, Debug, Default)]
-pub struct Answer {
-    pub number: usize,
-    pub phases: usize,
-    pub moves: usize,
-    pub copies: usize,
-}
-
-#[derive(Clone, Copy, PartialEq, Eq, Debug, Default)]
-pub struct SlotAnswer {
-    pub number: usize,
-    pub phases: usize,
-    pub moves: usize,
-    pub copies: usize,
-    /// 0 none, 1 user slot, 2 spare
-    pub kind: usize,
-    /// 0 none, 1 free, 2 settled, 3 on its rack but unsettled, 4 away
-    pub state: usize,
-    /// the destination's rack where the card is away, else 0
-    pub rack: usize,
-}
-
-#[derive(Clone, Copy, PartialEq, Eq, Debug, Default)]
-pub struct FileAnswer {
-    pub number: usize,
-    pub phases: usize,
-    pub moves: usize,
-    pub copies: usize,
-    /// N
-    pub racks: usize,
-    /// B
-    pub bytes: usize,
-    /// S
-    pub slots: usize,
-    /// where the card bytes begin in the file
-    pub place: usize,
-}
-
-#[derive(Clone, Copy, PartialEq, Eq, Debug, Default)]
-pub struct ListingAnswer {
-    pub number: usize,
-    pub phases: usize,
-    pub moves: usize,
-    pub copies: usize,
-    /// length of the text
-    pub size: usize,
-}
 
 /// "All counts are 0 on a refusal."
 fn refused(number: usize) -> Answer {
