@@ -1,7 +1,7 @@
 -- Laws of `pairUp`: first with first, second with second. Assumes nothing.
 use mathlib.Core.Path.{_≡_, refl}
-use mathlib.Core.List.{List, [], _∷_}
-use Prim.Native.Nat.{ℕ, min}
+use mathlib.Core.List.{List, [], _∷_, _++_}
+use Prim.Native.Nat.{ℕ, _≤_, min}
 use native.Mathlib.Omega.{arith}
 use lib.ListN.{length, take}
 use lib.Seq.{take-nil}
@@ -23,6 +23,13 @@ unfolding pairUp
 pairUp-take [] b = rw take-nil
 pairUp-take (x ∷ a) [] = refl
 pairUp-take (x ∷ a) (y ∷ b) = rw (pairUp-take a b)
+
+-- and of the latter no more than the former has members
+pub pairUp-front : (a b c : List ℕ) → length a ≤ length b → pairUp a (b ++ c) ≡ pairUp a b
+unfolding pairUp
+pairUp-front [] b c l = refl
+pairUp-front (x ∷ a) [] c l = absurd (omega arith)
+pairUp-front (x ∷ a) (y ∷ b) c l = rw (pairUp-front a b c (omega arith))
 
 -- what holds of each former and of each latter holds of the ends of each pair
 pub all-pairUp : {P Q : ℕ → Type 0} {a b : List ℕ} → All P a → All Q b → All (λ (m : Pair). P (m .0) × Q (m .1)) (pairUp a b)

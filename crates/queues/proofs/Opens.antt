@@ -1,7 +1,7 @@
 -- Laws of `opens`, the free slots of a rack from a mark on: none, one slot further, the first of them. Assumes nothing.
 use mathlib.Core.Path.{_≡_, refl, sym, _∙_}
 use mathlib.Core.Bool.{true, false}
-use mathlib.Core.List.{List, [], _∷_}
+use mathlib.Core.List.{List, [], _∷_, _++_}
 use Prim.Native.Nat.{ℕ, _+_, _≤_, _<_}
 use native.Mathlib.Omega.{arith}
 use native.Mathlib.Numerals.{add-one}
@@ -76,6 +76,14 @@ module _ (places : List ℕ) where
     where
       only : select (low + 1) (openFrom places low) ≡ low ∷ []
       only = rw (add-one low, from-here low, f, select-none low (openFrom places low) (from-below low))
+
+  -- those below a slot, and then those from it on
+  pub open-split : (low high top : ℕ) → low ≤ high → high ≤ top → opens places low top ≡ opens places low high ++ opens places high top
+  unfolding opens openFrom
+  open-split low high top l m = select-split high top (openFrom places low) (openFrom places high) m (from-below high) same
+    where
+      same : (g : ℕ) → high ≤ g → g < top → openFrom places low g ≡ openFrom places high g
+      same g i j = rw (le-leb low g (omega arith), le-leb high g i)
 
 module _ {places : List ℕ} {low high : ℕ} where
   -- a mark that stays; so does a search begin

@@ -7,13 +7,13 @@ use native.Mathlib.Numerals.{add-one}
 use native.Mathlib.Decide.{ℕ-discrete}
 use lib.ListN.{length, getD, set, length-set, length-append}
 use lib.Seq.{length-sets, getD-set-same, getD-set-other}
-use Rattle.counting.specs.Lists.{table, join, flat}
+use Rattle.counting.specs.Lists.{Pair, table, join, flat}
 use Rattle.counting.proofs.Select.{sum-mono, sum-more}
 use Rattle.counting.proofs.Lists.{join-more, length-join}
 use Rattle.counting.proofs.Stores.{sets-flat-none, sets-flat-append}
-use Rattle.queues.specs.Queues.{Rows, pairsFor, queuedPlan, served, Bounded, Roomed, Raised, Written, PhasePlanned}
+use Rattle.queues.specs.Queues.{Rows, opens, pairsFor, queuedPlan, served, servedFrom, Bounded, Roomed, Raised, Written, PhasePlanned}
 use Rattle.queues.proofs.Opens.{open-few}
-use Rattle.queues.proofs.Pairing.{served-same, served-cut, served-le}
+use Rattle.queues.proofs.Pairing.{served-same, served-cut, served-wide, served-all}
 
 module _ (rows : Rows) (places : List ℕ) where
   -- the plan of no racks
@@ -100,33 +100,49 @@ module _ {n p : ℕ} {rows : Rows} {places before after : List ℕ} {count : ℕ
 
     -- its queue cut where its free slots end, and its mark
     module _ {tail low : ℕ} (k : tail ≡ min (getD (rows .tails) p 0) (getD heads p 0 + getD (rows .rooms) p 0)) (o : Raised places (getD lows p 0) (getD (rows .ends) p 0) low) where
-      -- the pairs of the next rack are those of its queue and its mark at the start
-      pub next-pairs : served places (rows .queue) (getD heads p 0) tail low (getD (rows .ends) p 0) ≡ pairsFor rows places p
-      unfolding pairsFor
-      next-pairs =
-          sym (served-same places (rows .queue) tail (getD (rows .ends) p 0) (getD heads p 0) (getD lows p 0) low o)
-          ∙ rw (k, s .heads-rest p (omega arith), s .lows-rest p (omega arith))
-          (served-cut places (rows .queue) (getD (rows .tails) p 0) (getD (rows .ends) p 0) (getD (rows .heads) p 0) (getD (rows .lows) p 0) (getD (rows .rooms) p 0) (omega (arith, b .within p m, b .queue-long)) (c p m))
-
       -- the cut queue begins before it ends, and ends no later
       pub next-cut : (getD heads p 0 ≤ tail) × (tail ≤ getD (rows .tails) p 0)
       next-cut = let h = b .queued p m in omega (arith, s .heads-rest p (omega arith))
 
+      -- it lies in the list
+      queue-in : tail ≤ length (rows .queue)
+      queue-in = omega (arith, next-cut .1, b .within p m, b .queue-long)
+
+      -- each of its cards finds a free slot
+      all-find : tail ≤ getD heads p 0 + length (opens places low (getD (rows .ends) p 0))
+      all-find =
+          let e = c p m ∙ ap (λ (x : ℕ). length (opens places x (getD (rows .ends) p 0))) (sym (s .lows-rest p (omega arith))) ∙ ap length (o .same) in
+          omega arith
+
+      -- in the rack itself
+      in-rack : servedFrom places (rows .queue) (getD heads p 0) tail low ≡ served places (rows .queue) (getD heads p 0) tail low (getD (rows .ends) p 0)
+      unfolding servedFrom
+      in-rack = served-wide places (rows .queue) tail (getD (rows .ends) p 0) (getD heads p 0) low (length places) (o .within) (b .ended p m) queue-in all-find
+
+      -- the pairs of the next rack are those of its queue and its mark at the start
+      pub next-pairs : servedFrom places (rows .queue) (getD heads p 0) tail low ≡ pairsFor rows places p
+      unfolding pairsFor
+      next-pairs =
+          in-rack
+          ∙ sym (served-same places (rows .queue) tail (getD (rows .ends) p 0) (getD heads p 0) (getD lows p 0) low o)
+          ∙ rw (k, s .heads-rest p (omega arith), s .lows-rest p (omega arith))
+          (served-cut places (rows .queue) (getD (rows .tails) p 0) (getD (rows .ends) p 0) (getD (rows .heads) p 0) (getD (rows .lows) p 0) (getD (rows .rooms) p 0) (omega (arith, b .within p m, b .queue-long)) (c p m))
+
+      -- and as many as its cards
+      pub next-all : tail ≡ getD heads p 0 + length (servedFrom places (rows .queue) (getD heads p 0) tail low)
+      next-all =
+          served-all places (rows .queue) tail (getD (rows .ends) p 0) (getD heads p 0) low (next-cut .0) queue-in all-find
+          ∙ ap (λ (x : List Pair). getD heads p 0 + length x) (sym in-rack)
+
       module _ {after′ : List ℕ} {made : ℕ}
-          (w : Written (served places (rows .queue) (getD heads p 0) tail low (getD (rows .ends) p 0)) after (2 * count) after′ made) where
+          (w : Written (servedFrom places (rows .queue) (getD heads p 0) tail low) after (2 * count) after′ made) where
         -- as many are written
         pub next-made : made ≡ length (pairsFor rows places p)
         next-made = w .count-is ∙ ap length next-pairs
 
         -- no more than cards that wait
         pub next-few : getD heads p 0 + made ≤ getD (rows .tails) p 0
-        next-few =
-            omega (
-              arith,
-              w .count-is,
-              next-cut .1,
-              served-le places (rows .queue) tail (getD (rows .ends) p 0) (getD heads p 0) low (next-cut .0) (omega (arith, next-cut .1, b .within p m, b .queue-long)),
-            )
+        next-few = omega (arith, w .count-is, next-all, next-cut .1)
 
         -- the next rack is planned
         pub planned-more : Planned n (p + 1) rows places before after′ (count + made) (set heads p (getD heads p 0 + made)) (set lows p low)

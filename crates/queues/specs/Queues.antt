@@ -27,6 +27,10 @@ part l low high = slice low high l
 unfoldable pub served : List ℕ → List ℕ → ℕ → ℕ → ℕ → ℕ → List Pair
 served places queue head tail low high = pairUp (part queue head tail) (opens places low high)
 
+-- with the free slots of the whole table from low on
+unfoldable pub servedFrom : List ℕ → List ℕ → ℕ → ℕ → ℕ → List Pair
+servedFrom places queue head tail low = served places queue head tail low (length places)
+
 -- the tables of a call: the queues of all racks in one list, where each begins and ends, each rack's mark, how many free slots it has, and where it
 -- ends
 pub record Rows : Type 0 where

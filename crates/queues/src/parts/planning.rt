@@ -1,8 +1,8 @@
 // The pairs of a phase, from the queues: each rack's waiting cards take its free slots from the lowest up.
 ghost use mathlib.Core.Path.{_≡_};
-ghost use Prim.Native.Nat.{ℕ, _+_, _*_, _≤_, _<_, min};
+ghost use Prim.Native.Nat.{ℕ, _+_, _*_, _-_, _≤_, _<_, min};
 ghost use lib.ListN.{length};
-ghost use Rattle.queues.specs.Queues.{served, rowsOf, queuedPlan, Bounded, Roomed, Raised, NextOpen, Written, PhasePlanned};
+ghost use Rattle.queues.specs.Queues.{servedFrom, rowsOf, queuedPlan, Bounded, Roomed, Raised, NextOpen, Written, PhasePlanned};
 use racks::Job;
 
 // The smaller of two numbers.
@@ -41,36 +41,34 @@ fn raise_mark(places: &[u16], low: usize, high: usize, takes: bool) -> usize
     low
 }
 
-// Writes the pairs of one target from `at` on, two numbers each, and says how many they are.
+// Writes the pairs of one target from `at` on, two numbers each, and says how many they are: each of its cards finds a free slot. A pair
+// is written for every slot passed, and stays where the slot is free: no branch on a slot could be foretold where free and taken ones
+// alternate at random.
 pub fn plan_rack(
     places: &[u16],
     queue: &[u16; 4096],
     head: usize,
     tail: usize,
     low: usize,
-    high: usize,
     pairs: &mut [u16],
     at: usize,
 ) -> usize
-    requires { ⌜ (head ≤ tail) × (tail ≤ 4096) × (length (now queue) ≡ 4096) × (low ≤ high) × (high ≤ length (now places)) × (high ≤ 4096) ⌝ }
-    requires { ⌜ at + 2 * length (served (now places) (now queue) head tail low high) ≤ length (now pairs) ⌝ }
-    ensures { λ r. ⌜ Written (served (now (places .entry)) (now (queue .entry)) head tail low high) (now (pairs .entry)) at (now (pairs .exit)) r ⌝ }
+    requires { ⌜ (head ≤ tail) × (tail ≤ 4096) × (length (now queue) ≡ 4096) × (low ≤ length (now places)) × (length (now places) ≤ 4096) ⌝ }
+    requires { ⌜ (tail ≡ head + length (servedFrom (now places) (now queue) head tail low)) × (at + 2 * (tail - head) ≤ length (now pairs)) ⌝ }
+    ensures { λ r. ⌜ Written (servedFrom (now (places .entry)) (now (queue .entry)) head tail low) (now (pairs .entry)) at (now (pairs .exit)) r ⌝ }
 {
     let mut h = head;
     let mut t = low;
     let mut k = at;
     while h < tail {
-        t = next_open(places, t, high);
-        if t == high {
-            return h - head;
-        }
         pairs[k] = queue[h];
         pairs[k + 1] = t as u16;
-        k = k + 2;
+        let fills = tables::parts::one_if(places[t] == Job::FREE) as usize;
+        k = k + 2 * fills;
+        h = h + fills;
         t = t + 1;
-        h = h + 1;
     }
-    h - head
+    tail - head
 }
 
 // Plans a phase of n racks: its pairs from the front of the list, by target rack, and how many they are. A rack takes no more cards than it
@@ -99,7 +97,7 @@ pub fn plan_phase(
         let tail = smaller(tails[p] as usize, head + rooms[p] as usize);
         let low = raise_mark(places, lows[p] as usize, high, head < tail);
         lows[p] = low as u16;
-        let made = plan_rack(places, queue, head, tail, low, high, pairs, 2 * count);
+        let made = plan_rack(places, queue, head, tail, low, pairs, 2 * count);
         heads[p] = (head + made) as u16;
         count = count + made;
         p = p + 1;

@@ -3,7 +3,7 @@ use native.Mathlib.Omega.{arith}
 use Prim.Native.Nat.{_+_, _-_, _^_, _≤_, _<_}
 use lib.ListN.{length, getD}
 use Rattle.queues.specs.Queues.{rowsOf}
-use Rattle.queues.proofs.Planning.{Planned, Inside, planned-none, planned-long, planned-all, planned-inside, next-pairs, next-cut, next-few, next-made, planned-more}
+use Rattle.queues.proofs.Planning.{Planned, Inside, planned-none, planned-long, planned-all, planned-inside, next-pairs, next-cut, next-all, next-few, next-made, planned-more}
 use Rattle.queues.proofs.parts.planning.plan_phase.Statement.{statement}
 use Rattle.queues.proofs.parts.planning.plan_phase.Tie as tie
 
@@ -103,7 +103,9 @@ plan-rack-requires c κs =
     let r = rack i in
     let t = next-cut (s .pre .0) (s .pre .1 .0) (i .before .loop .inv) (omega arith) k o in
     let e = next-pairs (s .pre .0) (s .pre .1 .0) (i .before .loop .inv) (omega arith) k o in
-    (omega (arith, o .within, s .pre .0 .queue-long), rw e (r .room))
+    let a = next-all (s .pre .0) (s .pre .1 .0) (i .before .loop .inv) (omega arith) k o in
+    let f = rw e at a in
+    (omega (arith, o .within, s .pre .0 .queue-long), (a, omega (arith, r .room)))
 
 -- what the next rack's queue and the count grow to fits
 grown : (c : tie.After-slice-known2 Inv-loop μ-loop) →
