@@ -1,0 +1,5 @@
+pub mod Words
+pub mod Sets
+pub mod Fills
+pub mod Trailing
+pub mod Nexts

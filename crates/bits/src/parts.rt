@@ -1,0 +1,90 @@
+// What the layers above share: the bits of a word, and a set of numbers below 4,096 as bits.
+ghost use mathlib.Core.Path.{_≡_};
+ghost use Prim.Native.Nat.{_≤_, _<_};
+ghost use lib.ListN.{length};
+ghost use Rattle.bits.specs.Bits.{bitOn, turnedOn, turnedOff, isOn, marked, filled, cleared, Topped, Next};
+
+// The first bit of a word from bit s up that is on; 64 where none is.
+pub fn next_on(word: u64, s: usize) -> usize
+    requires { ⌜ s ≤ 64 ⌝ }
+    ensures { λ r. ⌜ Next (bitOn word) s 64 r ⌝ }
+{
+    if s == 64 {
+        return 64;
+    }
+    let rest = word >> s;
+    if rest == 0 {
+        return 64;
+    }
+    s + u64::trailing_zeros(rest) as usize
+}
+
+// A word with bit b on.
+pub fn turn_on(word: u64, b: usize) -> u64
+    requires { ⌜ b < 64 ⌝ }
+    ensures { λ r. ⌜ r ≡ turnedOn word b ⌝ }
+{
+    word | (1 << b)
+}
+
+// A word with bit b off.
+pub fn turn_off(word: u64, b: usize) -> u64
+    requires { ⌜ b < 64 ⌝ }
+    ensures { λ r. ⌜ r ≡ turnedOff word b ⌝ }
+{
+    word ^ (word & (1 << b))
+}
+
+// Number g into the set.
+pub fn mark(words: &mut [u64; 65], g: usize)
+    requires { ⌜ (length (now words) ≡ 65) × (g < 4096) ⌝ }
+    ensures { λ _. ⌜ now (words .exit) ≡ marked (now (words .entry)) g ⌝ }
+{
+    let w = g / 64;
+    words[w] = turn_on(words[w], g % 64);
+    words[64] = turn_on(words[64], w);
+}
+
+// A word of numbers into the set, where it had none.
+pub fn fill_word(words: &mut [u64; 65], w: usize, word: u64)
+    requires { ⌜ (length (now words) ≡ 65) × (w < 64) ⌝ }
+    ensures { λ _. ⌜ now (words .exit) ≡ filled (now (words .entry)) w word ⌝ }
+{
+    words[w] = word;
+    if word != 0 {
+        words[64] = turn_on(words[64], w);
+    }
+}
+
+// Number g out of the set.
+pub fn clear(words: &mut [u64; 65], g: usize)
+    requires { ⌜ (length (now words) ≡ 65) × (g < 4096) ⌝ }
+    ensures { λ _. ⌜ now (words .exit) ≡ cleared (now (words .entry)) g ⌝ }
+{
+    let w = g / 64;
+    let word = turn_off(words[w], g % 64);
+    words[w] = word;
+    if word == 0 {
+        words[64] = turn_off(words[64], w);
+    }
+}
+
+// The first number of the set from g up, 4,096 where there is none: in g's own word, else in the first word behind it that has a bit on.
+pub fn next_marked(words: &[u64; 65], g: usize) -> usize
+    requires { ⌜ (g ≤ 4096) × Topped (now words) ⌝ }
+    ensures { λ r. ⌜ Next (isOn (now (words .entry))) g 4096 r ⌝ }
+{
+    if g == 4096 {
+        return 4096;
+    }
+    let w = g / 64;
+    let b = next_on(words[w], g % 64);
+    if b < 64 {
+        return w * 64 + b;
+    }
+    let v = next_on(words[64], w + 1);
+    if v == 64 {
+        return 4096;
+    }
+    v * 64 + next_on(words[v], 0)
+}
