@@ -1,26 +1,23 @@
--- After a phase carried whole the queues, marks and counts fit the new table. Assumes nothing.
-use mathlib.Core.Path.{_≡_, sym, _∙_}
+-- After a phase carried whole the rows fit the new table. Assumes nothing.
+use mathlib.Core.Path.{_≡_, sym}
 use mathlib.Core.List.{List}
-use Prim.Native.Nat.{ℕ, suc, _+_, _≤_, _<_}
+use Prim.Native.Nat.{ℕ, _+_, _≤_, _<_}
 use native.Mathlib.Omega.{arith}
 use lib.ListN.{length, getD, take, drop}
 use lib.Seq.{drop-drop}
-use Rattle.racks.specs.Racks.{Rack, base}
+use Rattle.racks.specs.Racks.{Rack, slots}
 use Rattle.racks.specs.Legal.{Legal}
-use Rattle.tables.specs.Tables.{Filled}
-use Rattle.phases.specs.Plan.{plan, openSlots}
+use Rattle.phases.specs.Plan.{plan}
 use Rattle.phases.proofs.Plans.{plan-allowed, plan-apart}
-use Rattle.queues.specs.Queues.{Rows, rowsOf, Raised, pairsFor, opens, part}
-use Rattle.queues.specs.Ready.{Roomy, Ready}
+use Rattle.queues.specs.Queues.{Rows, rowsOf, pairsFor, Idle, part}
+use Rattle.queues.specs.Ready.{Ready}
 use Rattle.queues.proofs.Ready.{ready-for}
-use Rattle.queues.proofs.OpenSlots.{opens-are, opens-none}
 use Rattle.queues.proofs.Pairing.{served-le}
 use Rattle.moves.specs.Moves.{carriedPlaces}
 use Rattle.moves.proofs.Carry.{InTurn, pairs-in-turn}
 use Rattle.moves.proofs.Waits.{waits-carried}
-use Rattle.budgets.specs.Engine.{lowered, noted}
-use Rattle.budgets.proofs.Marks.{Marks, marks-carried}
-use Rattle.budgets.proofs.Rooms.{rooms-noted}
+use Rattle.budgets.specs.Engine.{noted}
+use Rattle.budgets.proofs.Shows.{Shows, shows-carried}
 
 -- a part without its first k
 part-drop : (l : List ℕ) (low high k : ℕ) → part l (low + k) high ≡ drop k (part l low high)
@@ -32,61 +29,40 @@ module _ (racks : List Rack) (places : List ℕ) (rows : Rows) (l : Legal racks 
   pub plan-in-turn : InTurn racks places (plan racks places)
   plan-in-turn = pairs-in-turn l (plan-apart racks places) (plan-allowed racks places)
 
-  -- marks that passed no free slot leave none below them
-  pub marks-up : (marks : List ℕ) → length marks ≡ 64 → ((p : ℕ) → p < length racks → Raised places (getD (rows .lows) p 0) (getD (rows .ends) p 0) (getD marks p 0)) → Marks racks places marks
-  marks-up marks long h = record { low = low; high = high; none-below = λ p b. opens-none racks places p b (getD marks p 0) (low p b) (high p b) (all p b); long = long }
-    where
-      low : (p : ℕ) → p < length racks → base racks p ≤ getD marks p 0
-      low p b = omega (arith, r .from-base p b, h p b .up)
+  module _ (small : slots racks ≤ 4096) (heads : List ℕ) (waiting : ℕ) (heads-long : length heads ≡ 64)
+      (heads-are : (p : ℕ) → p < length racks → getD heads p 0 ≡ getD (rows .heads) p 0 + length (pairsFor rows p))
+      (idle : Idle (length racks) heads (rows .tails) waiting) where
+    shows : Shows racks (carriedPlaces (plan racks places) places) (noted (plan racks places) (rows .bits))
+    shows = shows-carried small l plan-in-turn (record { topped = r .bounded .topped; shown = r .shown })
 
-      high : (p : ℕ) → p < length racks → getD marks p 0 ≤ base racks (suc p)
-      high p b = omega (arith, h p b .within, r .ends-are p b)
-
-      all : (p : ℕ) → p < length racks → opens places (getD marks p 0) (base racks (suc p)) ≡ openSlots racks places p
-      all p b = rw (← (r .ends-are p b)) (sym (h p b .same) ∙ r .open-slots p b)
-
-  module _ (table : List ℕ) (filled : Filled racks table) (heads marks : List ℕ) (heads-long : length heads ≡ 64) (marks-long : length marks ≡ 64)
-      (heads-are : (p : ℕ) → p < length racks → getD heads p 0 ≡ getD (rows .heads) p 0 + length (pairsFor rows places p))
-      (marks-are : (p : ℕ) → p < length racks → Raised places (getD (rows .lows) p 0) (getD (rows .ends) p 0) (getD marks p 0)) where
-    after : List ℕ
-    after = carriedPlaces (plan racks places) places
-
-    marks-after : Marks racks (carriedPlaces (plan racks places) places) (lowered table (plan racks places) marks)
-    marks-after = marks-carried racks table filled (r .bounded .few) l plan-in-turn (marks-up marks marks-long marks-are)
-
-    rooms-after : Roomy racks (carriedPlaces (plan racks places) places) (noted table (plan racks places) (rows .rooms))
-    rooms-after = rooms-noted table filled (r .bounded .few) (r .bounded .small) l plan-in-turn (r .rooms-are)
-
-    queued-after : (p : ℕ) → p < length racks → getD heads p 0 ≤ getD (rows .tails) p 0
+    queued : (p : ℕ) → p < length racks → getD heads p 0 ≤ getD (rows .tails) p 0
     unfolding pairsFor
-    queued-after p b =
-        omega (arith, heads-are p b, served-le places (rows .queue) (getD (rows .tails) p 0) (getD (rows .ends) p 0) (getD (rows .heads) p 0) (getD (rows .lows) p 0) (r .bounded .queued p b) (omega (arith, r .bounded .within p b, r .bounded .queue-long)))
+    queued p b =
+        omega (arith, heads-are p b, served-le (rows .bits) (rows .queue) (getD (rows .heads) p 0) (getD (rows .tails) p 0) (getD (rows .firsts) p 0) (getD (rows .ends) p 0) (r .bounded .queued p b) (omega (arith, r .bounded .within p b, r .bounded .queue-long)))
 
-    -- the queues, marks and counts fit the table after the phase
-    pub ready-next : Ready racks (carriedPlaces (plan racks places) places) (rowsOf (rows .queue) heads (rows .tails) (lowered table (plan racks places) marks) (noted table (plan racks places) (rows .rooms)) (rows .ends))
+    -- the rows fit the table after the phase
+    pub ready-next : Ready racks (carriedPlaces (plan racks places) places) (rowsOf (rows .queue) heads (rows .tails) (rows .firsts) (rows .ends) (noted (plan racks places) (rows .bits)) waiting)
     ready-next =
-        let k = marks-after in
         record {
           bounded =
               record {
                 few = r .bounded .few;
-                small = r .bounded .small;
                 queue-long = r .bounded .queue-long;
                 heads-long = heads-long;
                 tails-long = r .bounded .tails-long;
-                lows-long = k .long;
-                rooms-long = rooms-after .long;
+                firsts-long = r .bounded .firsts-long;
                 ends-long = r .bounded .ends-long;
-                queued = queued-after;
+                queued = queued;
                 within = r .bounded .within;
-                marked = λ p b. omega (arith, k .high p b, r .ends-are p b);
+                begun = r .bounded .begun;
                 ended = r .bounded .ended;
+                topped = shows .topped;
+                idle = idle;
               };
           waits = λ p b.
-              rw (heads-are p b, part-drop (rows .queue) (getD (rows .heads) p 0) (getD (rows .tails) p 0) (length (pairsFor rows places p)), r .waits p b, ready-for racks places rows r p b)
+              rw (heads-are p b, part-drop (rows .queue) (getD (rows .heads) p 0) (getD (rows .tails) p 0) (length (pairsFor rows p)), r .waits p b, ready-for racks places rows r p b)
               (sym (waits-carried racks places l plan-in-turn p b));
-          open-slots = λ p b. rw (r .ends-are p b) (opens-are racks _ p b _ (k .low p b) (k .high p b) (k .none-below p b));
-          rooms-are = rooms-after;
-          from-base = k .low;
+          shown = shows .shown;
+          firsts-are = r .firsts-are;
           ends-are = r .ends-are;
         }

@@ -16,16 +16,15 @@ use Rattle.racks.specs.Table.{aways}
 use Rattle.racks.specs.Numbers.{someAway}
 use Rattle.racks.specs.Legal.{Legal, Spared}
 use Rattle.racks.proofs.LegalTable.{legal}
-use Rattle.racks.proofs.Jobs.{sound-few, sound-racks}
+use Rattle.racks.proofs.Jobs.{sound-racks}
 use Rattle.racks.specs.Job.{racksOf}
 use Rattle.racks.specs.declared.Job.{Job}
-use Rattle.tables.specs.Tables.{Filled}
 use Rattle.phases.specs.Plan.{plan}
 use Rattle.phases.proofs.Plans.{plan-allowed, plan-few}
 use Rattle.phases.proofs.Possible.{plan-none}
 use Rattle.queues.specs.Queues.{Rows, rowsOf, queuedPlan}
 use Rattle.queues.specs.Ready.{Ready}
-use Rattle.queues.proofs.Ready.{ready-bounded, ready-roomed, ready-count}
+use Rattle.queues.proofs.Ready.{ready-bounded, ready-count}
 use Rattle.moves.specs.Moves.{carriedPlaces, carriedCards, Held, carried}
 use Rattle.moves.specs.Phases.{budget}
 use Rattle.moves.proofs.Carry.{InTurn, in-turn-take, legal-carried, aways-carried, places-append, cards-append, length-carried-cards}
@@ -33,7 +32,6 @@ use Rattle.moves.proofs.Phases.{aways-none, budget-none, budget-step}
 use Rattle.moves.proofs.FirstFit.{first-fit}
 use Rattle.budgets.specs.Engine.{Runnable, PhaseRun, Going, Made}
 use Rattle.budgets.proofs.NextPhase.{plan-in-turn, ready-next}
-use Rattle.budgets.proofs.Rooms.{rooms-notable}
 
 -- moves and further moves
 carried-append : (b : ℕ) (ms ns : List Pair) (h : Held) → carried b (ms ++ ns) h ≡ carried b ns (carried b ms h)
@@ -52,10 +50,8 @@ spend k left made a rest total l m e h =
     rw x (omega (arith, y, rw e at h))
 
 -- what does not change from turn to turn
-pub record Fixed (racks : List Rack) (n : ℕ) (table : List ℕ) : Type 0 where
+pub record Fixed (racks : List Rack) (n : ℕ) : Type 0 where
   pub spared : Spared racks
-  pub filled : Filled racks table
-  pub few : length racks ≤ 64
   pub small : slots racks ≤ 4096
   pub racks-are : n ≡ length racks
 
@@ -76,24 +72,23 @@ turn-done {racks} {b} {k} {h₀} {h} {left} t z =
     let rest = rw (z, budget-zero racks (h .places)) at (t .rest) in
     record { made-is = omega (arith, t .count); held-is = rest }
 
-module _ (racks : List Rack) (n : ℕ) (table : List ℕ) (f : Fixed racks n table) (b k : ℕ) (h₀ : Held) (rows : Rows) (h : Held) (pairs : List ℕ) (left : ℕ)
+module _ (racks : List Rack) (n : ℕ) (f : Fixed racks n) (b k : ℕ) (h₀ : Held) (rows : Rows) (h : Held) (pairs : List ℕ) (left : ℕ)
     (t : Turn racks b k h₀ rows h pairs left) (l : 0 < left) where
-  all-is : queuedPlan n rows (h .places) ≡ plan racks (h .places)
+  all-is : queuedPlan n rows ≡ plan racks (h .places)
   all-is = ready-count racks (h .places) rows (t .ready l) n (f .racks-are)
 
   -- a phase can be run
-  pub turn-runnable : Runnable n b rows h table pairs
+  pub turn-runnable : Runnable n b rows h pairs
   turn-runnable =
       record {
-        bounded = ready-bounded racks (h .places) rows (t .ready l) n (f .racks-are) (t .legal .long);
+        bounded = ready-bounded racks (h .places) rows (t .ready l) n (f .racks-are);
+        small = omega (arith, t .legal .long, f .small);
         sized = ap (λ (s : ℕ). s * b) (t .legal .long) ∙ sym (t .cards-long);
         slots = rw (all-is, t .legal .long) (all-map (λ m a. record { from-lt = a .from-lt; to-lt = a .to-lt }) (plan-allowed racks (h .places)));
-        roomed = ready-roomed racks (h .places) rows (t .ready l) n (f .racks-are);
-        notable = rw all-is (rooms-notable table (f .filled) (f .few) (f .small) (t .legal) (plan-in-turn racks (h .places) rows (t .legal) (t .ready l)) (t .ready l .rooms-are));
         room = rw all-is (omega (arith, plan-few racks (h .places), f .small, t .room));
       }
 
-  module _ (made : ℕ) (h′ : Held) (pairs′ heads lows rooms : List ℕ) (r : PhaseRun n b left rows h table pairs made h′ pairs′ heads lows rooms) where
+  module _ (made : ℕ) (h′ : Held) (pairs′ heads bits : List ℕ) (waiting : ℕ) (r : PhaseRun n b left rows h pairs made h′ pairs′ heads bits waiting) where
     pub made-is : made ≡ min (length (plan racks (h .places))) left
     made-is = r .made-is ∙ ap (λ (ms : List Pair). min (length ms) left) all-is
 
@@ -138,7 +133,7 @@ module _ (racks : List Rack) (n : ℕ) (table : List ℕ) (f : Fixed racks n tab
       ]
 
       -- the next turn
-      pub turn-next : Turn racks b k h₀ (rowsOf (rows .queue) heads (rows .tails) lows rooms (rows .ends)) h′ pairs′ (left - made)
+      pub turn-next : Turn racks b k h₀ (rowsOf (rows .queue) heads (rows .tails) (rows .firsts) (rows .ends) bits waiting) h′ pairs′ (left - made)
       turn-next =
           record {
             within = omega (arith, t .within);
@@ -150,12 +145,12 @@ module _ (racks : List Rack) (n : ℕ) (table : List ℕ) (f : Fixed racks n tab
             count = counted (aways-carried (t .legal) in-turn) (length-take left (plan racks (h .places)));
           }
         where
-          ready : 0 < left - made → Ready racks (h′ .places) (rowsOf (rows .queue) heads (rows .tails) lows rooms (rows .ends))
+          ready : 0 < left - made → Ready racks (h′ .places) (rowsOf (rows .queue) heads (rows .tails) (rows .firsts) (rows .ends) bits waiting)
           ready o =
               let q : take left (plan racks (h .places)) ≡ plan racks (h .places) = take-all left (plan racks (h .places)) (omega (arith, made-is)) in
-              rw (held-is, r .noted .lows-are, r .noted .rooms-are, all-is, q)
-              (ready-next racks (h .places) rows (t .legal) (t .ready l) table (f .filled) heads (r .marks) (r .heads-long) (r .marks-long)
-              (λ p i. r .heads-are p (omega (arith, f .racks-are))) (λ p i. r .marks-are p (omega (arith, f .racks-are))))
+              rw (held-is, r .bits-are, all-is, q)
+              (ready-next racks (h .places) rows (t .legal) (t .ready l) (f .small) heads waiting (r .heads-long)
+              (λ p i. r .heads-are p (omega (arith, f .racks-are))) (λ p i. r .idle p (omega (arith, f .racks-are))))
 
           counted : aways racks (h .places) ≡ length (take left (plan racks (h .places))) + aways racks (carriedPlaces (take left (plan racks (h .places))) (h .places))
               → length (take left (plan racks (h .places))) ≡ min left (length (plan racks (h .places)))
@@ -165,9 +160,9 @@ module _ (racks : List Rack) (n : ℕ) (table : List ℕ) (f : Fixed racks n tab
               rw held-is (spend k left made _ _ _ (t .within) (omega (arith, made-is)) (x ∙ rw e) (t .count))
 
 -- the first turn
-module _ {job : Job} {b : ℕ} {rows : Rows} {h : Held} {table pairs : List ℕ} (g : Going job b rows h table pairs) where
-  pub going-fixed : Fixed (racksOf job) (job .racks) table
-  going-fixed = record { spared = g .spared; filled = g .filled; few = sound-few job (g .sound); small = g .sound .small; racks-are = sound-racks job (g .sound) }
+module _ {job : Job} {b : ℕ} {rows : Rows} {h : Held} {pairs : List ℕ} (g : Going job b rows h pairs) where
+  pub going-fixed : Fixed (racksOf job) (job .racks)
+  going-fixed = record { spared = g .sound .spared; small = g .sound .small; racks-are = sound-racks job (g .sound) }
 
   pub turn-first : (k : ℕ) → Turn (racksOf job) b k h rows h pairs k
   turn-first k =

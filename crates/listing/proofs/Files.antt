@@ -1,5 +1,5 @@
 -- The text of a file: 18, another refusal, or a run; it is never longer than ENOUGH. Assumes nothing.
-use mathlib.Core.Path.{_≡_, refl, ap, sym, subst, _∙_}
+use mathlib.Core.Path.{_≡_, refl, ap, sym, _∙_}
 use mathlib.Core.List.{List, []}
 use Prim.Native.Nat.{ℕ, _≤_, _<_}
 use native.Mathlib.Omega.{arith}
@@ -14,7 +14,6 @@ use Rattle.racks.specs.Racks.{ofCaps, slots}
 use Rattle.racks.specs.Numbers.{cardChecks, tooShort}
 use Rattle.racks.specs.Answers.{answer, noCounts}
 use Rattle.racks.specs.Job.{racksOf, jobOf}
-use Rattle.racks.specs.Legal.{Spared}
 use Rattle.racks.specs.declared.Job.{Job}
 use Rattle.racks.proofs.Jobs.{sound-refused}
 use Rattle.racks.proofs.LegalTable.{legal, spared-caps}
@@ -153,10 +152,6 @@ module _ (caps : List ℕ) (job : Job) (is : job ≡ jobOf (ofCaps caps)) (b : �
   -- the job's racks are those of the capacities
   pub job-racks : racksOf job ≡ ofCaps caps
   job-racks = of-racks caps job is (sound-refused job (job-accepted .sound))
-
-  -- each has a spare
-  pub job-spared : Spared (racksOf job)
-  job-spared = subst Spared (sym job-racks) (spared-caps caps)
 
   -- a card has at most 256 bytes
   pub job-bytes : b ≤ 256

@@ -53,7 +53,7 @@ pub record Lined (racks : List Rack) (b k : ℕ) (h₀ : Held) (rows : Rows) (h 
   pub few : count + left ≤ k
   pub lines : Left (phaseLines (count + 1) (phases racks (h .places))) out place (phaseLines 1 (phases racks (h₀ .places))) before 0
 
-module _ {racks : List Rack} {n : ℕ} {table : List ℕ} (f : Fixed racks n table) {b k : ℕ} {h₀ : Held} {rows : Rows} {h : Held} {pairs : List ℕ} {left : ℕ}
+module _ {racks : List Rack} {n : ℕ} (f : Fixed racks n) {b k : ℕ} {h₀ : Held} {rows : Rows} {h : Held} {pairs : List ℕ} {left : ℕ}
     {before out : List ℕ} {count place : ℕ} (r : Lined racks b k h₀ rows h pairs left before out count place) where
   module _ (legal₀ : Legal racks (h₀ .places)) (all : aways racks (h₀ .places) ≤ k) where
     -- as much allowance as cards are away makes all moves
@@ -86,18 +86,18 @@ module _ {racks : List Rack} {n : ℕ} {table : List ℕ} (f : Fixed racks n tab
 
   module _ (l : 0 < left) where
     -- a phase can be run
-    pub lined-runnable : Runnable n b rows h table pairs
-    lined-runnable = turn-runnable racks n table f b k h₀ rows h pairs left (r .turn) l
+    pub lined-runnable : Runnable n b rows h pairs
+    lined-runnable = turn-runnable racks n f b k h₀ rows h pairs left (r .turn) l
 
-    module _ {made : ℕ} {h′ : Held} {pairs′ heads lows rooms : List ℕ} (p : PhaseRun n b left rows h table pairs made h′ pairs′ heads lows rooms) where
+    module _ {made : ℕ} {h′ : Held} {pairs′ heads bits : List ℕ} {waiting : ℕ} (p : PhaseRun n b left rows h pairs made h′ pairs′ heads bits waiting) where
       -- the whole plan is carried
       whole : made ≡ length (plan racks (h .places))
-      whole = omega (arith, made-is racks n table f b k h₀ rows h pairs left (r .turn) l made h′ pairs′ heads lows rooms p, plan-aways racks (h .places), r .enough)
+      whole = omega (arith, made-is racks n f b k h₀ rows h pairs left (r .turn) l made h′ pairs′ heads bits waiting p, plan-aways racks (h .places), r .enough)
 
       -- a phase with no pairs: nothing was away
       pub lined-none : Legal racks (h₀ .places) → aways racks (h₀ .places) ≤ k → made ≡ 0 → PhasesPut racks b h₀ h′ before out (phasedOf count (k - left) place)
       lined-none legal₀ all z =
-          lined-end legal₀ all h′ (k - left) (turn-none racks n table f b k h₀ rows h pairs left (r .turn) l made h′ pairs′ heads lows rooms p z)
+          lined-end legal₀ all h′ (k - left) (turn-none racks n f b k h₀ rows h pairs left (r .turn) l made h′ pairs′ heads bits waiting p z)
           (by-test (someAway racks (h .places)) (λ e. absurd (omega (arith, whole, first-fit (f .spared) .has-pair (h .places) (r .turn .legal) e))) (λ e. e))
 
       -- no more are made than are left
@@ -115,7 +115,7 @@ module _ {racks : List Rack} {n : ℕ} {table : List ℕ} (f : Fixed racks n tab
       -- they are the plan's
       pairs-carried : pairsIn pairs′ 0 (2 * made) ≡ plan racks (h .places)
       pairs-carried =
-          let e : queuedPlan n rows (h .places) ≡ plan racks (h .places) = ready-count racks (h .places) rows (r .turn .ready l) n (f .racks-are) in
+          let e : queuedPlan n rows ≡ plan racks (h .places) = ready-count racks (h .places) rows (r .turn .ready l) n (f .racks-are) in
           pairs-of pairs′ pairs 0 (2 * made) made (plan racks (h .places)) (rw (← e) (p .list)) (omega (arith, length-flat (plan racks (h .places)), pairs-few)) (omega arith) (omega (arith, whole))
           ∙ take-all made (plan racks (h .places)) (omega (arith, whole))
 
@@ -125,7 +125,7 @@ module _ {racks : List Rack} {n : ℕ} {table : List ℕ} (f : Fixed racks n tab
 
         held-whole : h′ ≡ carried b (plan racks (h .places)) h
         held-whole =
-            held-is racks n table f b k h₀ rows h pairs left (r .turn) l made h′ pairs′ heads lows rooms p
+            held-is racks n f b k h₀ rows h pairs left (r .turn) l made h′ pairs′ heads bits waiting p
             ∙ ap (λ (ms : List Pair). carried b ms h) (take-all left (plan racks (h .places)) (omega (arith, plan-aways racks (h .places), r .enough)))
 
         places-are : h′ .places ≡ carriedPlaces (plan racks (h .places)) (h .places)
@@ -145,11 +145,11 @@ module _ {racks : List Rack} {n : ℕ} {table : List ℕ} (f : Fixed racks n tab
 
         -- it is written
         pub lined-next : {out′ : List ℕ} {place′ : ℕ} → Wrote (phaseLine (count + 1) (pairsIn pairs′ 0 (2 * made))) out place out′ place′
-            → Lined racks b k h₀ (rowsOf (rows .queue) heads (rows .tails) lows rooms (rows .ends)) h′ pairs′ (left - made) before out′ (count + 1) place′
+            → Lined racks b k h₀ (rowsOf (rows .queue) heads (rows .tails) (rows .firsts) (rows .ends) bits waiting) h′ pairs′ (left - made) before out′ (count + 1) place′
         lined-next w =
             let in-turn : InTurn racks (h .places) (plan racks (h .places)) = plan-in-turn racks (h .places) rows (r .turn .legal) (r .turn .ready l) in
             record {
-              turn = turn-next racks n table f b k h₀ rows h pairs left (r .turn) l made h′ pairs′ heads lows rooms p nz;
+              turn = turn-next racks n f b k h₀ rows h pairs left (r .turn) l made h′ pairs′ heads bits waiting p nz;
               enough = rw places-are (omega (arith, aways-carried (r .turn .legal) in-turn, whole, r .enough));
               counted = omega (arith, ap length step, r .counted);
               few = omega (arith, r .few, made-left);
@@ -157,7 +157,7 @@ module _ {racks : List Rack} {n : ℕ} {table : List ℕ} (f : Fixed racks n tab
             }
 
 -- the first phase
-module _ {job : Job} {b : ℕ} {rows : Rows} {h : Held} {table pairs : List ℕ} (g : Going job b rows h table pairs) where
+module _ {job : Job} {b : ℕ} {rows : Rows} {h : Held} {pairs : List ℕ} (g : Going job b rows h pairs) where
   -- as many as there are slots is an allowance for all moves
   pub all-away : aways (racksOf job) (h .places) ≤ job .slots
   all-away = omega (arith, aways-few (racksOf job) (h .places), sound-slots job (g .sound))

@@ -64,9 +64,9 @@ pub record Runs (racks : List Rack) (b : ℕ) (h : Held) (out : List ℕ) : Type
   pub room : Room (runText racks b h) 0 out
 
 -- by the job
-pub runs-first : (job : Job) (b : ℕ) (h : Held) (out : List ℕ) → Sound job → Spared (racksOf job) → first (tableChecks (racksOf job) (h .places)) ≡ 0
+pub runs-first : (job : Job) (b : ℕ) (h : Held) (out : List ℕ) → Sound job → first (tableChecks (racksOf job) (h .places)) ≡ 0
     → length (h .cards) ≡ slots (racksOf job) * b → Room (runText (racksOf job) b h) 0 out → Runs (racksOf job) b h out
-runs-first job b h out sound spared z long room = record { legal = legal-table (racksOf job) (h .places) z; spared = spared; small = sound .small; long = long; room = room }
+runs-first job b h out sound z long room = record { legal = legal-table (racksOf job) (h .places) z; spared = sound .spared; small = sound .small; long = long; room = room }
 
 -- the parts of that text, each behind the one before it
 module _ {racks : List Rack} {b : ℕ} {h : Held} {out : List ℕ} (r : Runs racks b h out) where

@@ -1,28 +1,25 @@
 -- What one move does to the table: a card to any free slot, and a card to its own rack. Assumes nothing.
 use mathlib.Core.Path.{_≡_, refl, ap, sym, _∙_}
-use mathlib.Core.Bool.{Bool, true, false}
+use mathlib.Core.Bool.{true, false}
 use mathlib.Core.Logic.{_≢_}
 use mathlib.Core.List.{List, [], _∷_}
-use Prim.Native.Nat.{ℕ, suc, _+_, _<_}
+use Prim.Native.Nat.{ℕ, suc, _<_}
 use native.Mathlib.Omega.{arith}
 use native.Mathlib.Decide.{ℕ-discrete}
-use lib.Dec.{eqb}
 use lib.ListN.{length, set, length-set}
 use lib.Seq.{getD-set-same, getD-set-other}
 use borrow.Author.Tests.{eqb-true, eq-eqb, ne-eqb}
-use Rattle.counting.specs.Tests.{bit}
 use Rattle.counting.specs.Count.{count}
 use Rattle.counting.specs.Lists.{Pair}
-use Rattle.counting.proofs.Tests.{by-test, off, no-way, both, and-l, and-r, and-off-l, and-off-r}
+use Rattle.counting.proofs.Tests.{by-test, off, no-way, both, and-l, and-r, and-off-l}
 use Rattle.counting.specs.Every.All.{more, none}
 use Rattle.counting.proofs.Members.{among-none, among-last, besides, besides-in, besides-out, besides-off}
 use Rattle.counting.proofs.Count.{count-cong, count-change, count-move}
 use Rattle.racks.specs.Limits.{FREE}
 use Rattle.racks.specs.Racks.{Rack, slots, rackOf}
-use Rattle.racks.specs.Table.{dest, free, rackTo, onRack, away, aways, awayTo, bound, owes, freeOn, names}
+use Rattle.racks.specs.Table.{dest, free, rackTo, onRack, away, aways, awayTo, bound, owes, names}
 use Rattle.racks.specs.Legal.{Legal}
-use Rattle.racks.proofs.Away.{away-held, away-off, on-free, on-is}
-use Rattle.phases.specs.Plan.{room}
+use Rattle.racks.proofs.Away.{away-held, away-off}
 use Rattle.phases.proofs.Allowed.{Allowed, Apart}
 use Rattle.moves.specs.Moves.{movedPlaces}
 use Rattle.moves.proofs.Pairs.{Moved, Ends, ToFree, free-ends, free-disjoint}
@@ -48,37 +45,25 @@ bound-off : (racks : List Rack) (places : List ℕ) (i p g : ℕ) → away racks
 unfolding bound awayTo
 bound-off racks places i p g h = off (λ k. no-way (and-l _ (and-l _ k)) h)
 
--- a free slot of another rack is none of p's
-off-rack : (racks : List Rack) (places : List ℕ) (p g : ℕ) → eqb (rackOf racks g) p ≡ false → freeOn racks places p g ≡ false
-unfolding freeOn
-off-rack racks places p g z = and-off-r _ z
-
--- a slot free as before is free on p as before
-free-same : (racks : List Rack) (places places′ : List ℕ) (p g : ℕ) → free places′ g ≡ free places g → freeOn racks places′ p g ≡ freeOn racks places p g
-unfolding freeOn
-free-same racks places places′ p g e = rw e
-
 -- a card to any free slot
 module _ {racks : List Rack} {places : List ℕ} {m : Pair} (l : Legal racks places) (f : ToFree racks places m) where
   moved : Moved FREE m (dest places) (dest (movedPlaces m places))
   moved = moved-places places (l .long) (free-ends f)
 
-  free-from : free (movedPlaces m places) (m .0) ≡ true
+  -- the source is free
+  pub free-from : free (movedPlaces m places) (m .0) ≡ true
   unfolding free
   free-from = eq-eqb _ _ (moved .at-from)
 
-  same-free : (g : ℕ) → g ≢ m .0 → g ≢ m .1 → free (movedPlaces m places) g ≡ free places g
+  -- any other slot is free where it was
+  pub same-free : (g : ℕ) → g ≢ m .0 → g ≢ m .1 → free (movedPlaces m places) g ≡ free places g
   unfolding free
   same-free g a b = rw (moved .other g a b)
 
   -- the target is not free
-  taken-to : free (movedPlaces m places) (m .1) ≡ false
+  pub taken-to : free (movedPlaces m places) (m .1) ≡ false
   unfolding free
   taken-to = rw (moved .at-to) (f .is-held)
-
-  -- a slot that was not free is not, but for the source
-  pub taken-moved : (g : ℕ) → g ≢ m .0 → free places g ≡ false → free (movedPlaces m places) g ≡ false
-  taken-moved g a h = elim (ℕ-discrete g (m .1)) [ yes e ↦ rw e taken-to | no b ↦ same-free g a b ∙ h ]
 
   -- a card stands in slot g after the move: it came, or it stayed
   data Origin (g : ℕ) : Type 0 where
@@ -112,45 +97,6 @@ module _ {racks : List Rack} {places : List ℕ} {m : Pair} (l : Legal racks pla
     ];
     once = λ g h k n a e. once-by g h k n (origin g a) (origin h (rw e at a)) a e;
   }
-
-  -- the source's rack has one free slot more, the target's one less
-  pub room-moved : (p : ℕ) → room racks (movedPlaces m places) p + bit (eqb (rackOf racks (m .1)) p) ≡ room racks places p + bit (eqb (rackOf racks (m .0)) p)
-  unfolding room
-  room-moved p = by-test (eqb (rackOf racks (m .0)) p)
-      (λ x. by-test (eqb (rackOf racks (m .1)) p)
-      (λ y. omega (arith, ap bit x, ap bit y, count-move n was is (m .1) (m .0) (f .to-lt) (f .from-lt) (on places (m .1) (f .is-free) y) was-from is-to (on (movedPlaces m places) (m .0) free-from x) (λ j _ b a. sym (same j a b))))
-      (λ y. omega (arith, ap bit x, ap bit y, count-change n is was (m .0) (f .from-lt) (on (movedPlaces m places) (m .0) free-from x) was-from (λ j _ a. but (m .1) y j (same j a)))))
-      (λ x. by-test (eqb (rackOf racks (m .1)) p)
-      (λ y. omega (arith, ap bit x, ap bit y, count-change n was is (m .1) (f .to-lt) (on places (m .1) (f .is-free) y) is-to (λ j _ b. sym (but (m .0) x j (λ a. same j a b)))))
-      (λ y. omega (arith, ap bit x, ap bit y, count-cong n is was (λ j _. but (m .0) x j (λ a. but (m .1) y j (same j a))))))
-    where
-      n : ℕ
-      n = slots racks
-
-      was : ℕ → Bool
-      was = freeOn racks places p
-
-      is : ℕ → Bool
-      is = freeOn racks (movedPlaces m places) p
-
-      on : (places : List ℕ) (g : ℕ) → free places g ≡ true → eqb (rackOf racks g) p ≡ true → freeOn racks places p g ≡ true
-      on places g h e = on-is racks places p g h (eqb-true _ _ e)
-
-      was-from : was (m .0) ≡ false
-      was-from = off (λ h. no-way (on-free racks places p (m .0) h) (f .is-held))
-
-      is-to : is (m .1) ≡ false
-      is-to = off (λ h. no-way (on-free racks (movedPlaces m places) p (m .1) h) taken-to)
-
-      same : (j : ℕ) → j ≢ m .0 → j ≢ m .1 → is j ≡ was j
-      same j a b = free-same racks places (movedPlaces m places) p j (same-free j a b)
-
-      -- a slot of another rack counts neither before nor after
-      but : (g : ℕ) → eqb (rackOf racks g) p ≡ false → (j : ℕ) → (j ≢ g → is j ≡ was j) → is j ≡ was j
-      but g z j h = elim (ℕ-discrete j g) [
-        | yes e ↦ rw e (off-rack racks (movedPlaces m places) p g z ∙ sym (off-rack racks places p g z))
-        | no d ↦ h d
-      ]
 
   -- every destination stands in the table as often as before
   pub stands-moved : (d : ℕ) → d ≢ FREE → count (slots racks) (names places d) ≡ count (slots racks) (names (movedPlaces m places) d)

@@ -1,3 +1,4 @@
+pub mod Rooms
 pub mod Owed
 pub mod PairCount
 pub mod Planned

@@ -17,15 +17,14 @@ use Rattle.racks.specs.Limits.{FREE}
 use Rattle.racks.specs.Racks.{Rack, slots, rackOf}
 use Rattle.racks.specs.Table.{dest, free, rackTo, onRack, away, bound, owes}
 use Rattle.racks.proofs.Geometry.{rack-lt}
-use Rattle.racks.specs.Legal.{Legal, Spared}
+use Rattle.racks.specs.Legal.{Legal}
 use Rattle.racks.proofs.LegalTable.{legal-dest}
 use Rattle.racks.proofs.Away.{away-held, to-away, to-rack, to-is, bound-on, bound-off}
 use Rattle.tables.specs.Tables.{namedSlot, Filled}
-use Rattle.queues.specs.Queued.{oneMore, roomsWith}
+use Rattle.queues.specs.Queued.{oneMore}
 use Rattle.queues.proofs.Counts.{zeros, more-by, one-count, one-few, one-long}
-use Rattle.queues.proofs.Queueing.{RoomsTo, rooms-none, rooms-more}
-use Rattle.queues.proofs.AllQueued.{rooms-all}
-use Rattle.plans.specs.Owed.{cell, Tallied, awayBy, owesWith, Counted, Countable}
+use Rattle.plans.specs.Owed.{cell, Tallied, awayBy, owesWith, roomsWith, Counted, Countable}
+use Rattle.plans.proofs.Rooms.{RoomsTo, rooms-none, rooms-all, rooms-more}
 
 -- n is the slot that slot g's entry names
 module _ (places table : List ℕ) (g n : ℕ) (en : n ≡ namedSlot g (dest places g)) where
@@ -101,7 +100,7 @@ module _ (racks : List Rack) (places : List ℕ) where
       }
 
   -- slot g of a legal table is next
-  module _ (v : Legal racks places) (few : length racks ≤ 64) (small : slots racks ≤ 4096) (spared : Spared racks) (table : List ℕ) (filled : Filled racks table)
+  module _ (v : Legal racks places) (few : length racks ≤ 64) (small : slots racks ≤ 4096) (table : List ℕ) (filled : Filled racks table)
       (g : ℕ) (l : g < slots racks) (owed rooms : List ℕ) (c : CountedTo racks places g owed rooms) where
     -- its rack, looked up
     here : getD table g 0 ≡ rackOf racks g
@@ -180,5 +179,5 @@ module _ (racks : List Rack) (places : List ℕ) where
           owed-are = λ i p h h′. one-count _ at owed owed′ (k .owed-are) m g (cell i p) (bound racks places i p) (c .owed-are i p h h′) (bound-here i p h h′) (bound-none i p);
           owed-few = one-few _ at owed owed′ (k .owed-are) m g (c .owed-few);
           owed-long = one-long _ at owed owed′ (k .owed-are) m ∙ c .owed-long;
-          rooms-are = rooms-more racks places table (record { legal = v; filled = filled; small = small; few = few; spared = spared }) g l rooms rooms′ (c .rooms-are) (k .rooms-are);
+          rooms-are = rooms-more racks places table filled few g l rooms rooms′ (c .rooms-are) (k .rooms-are);
         }

@@ -9,9 +9,8 @@ use Rattle.counting.specs.Tests.{_and_, pick}
 use Rattle.racks.specs.Racks.{Rack}
 use Rattle.racks.specs.Table.{dest, free, owes}
 use Rattle.tables.specs.Tables.{namedSlot}
-use Rattle.phases.specs.Plan.{other}
-use Rattle.queues.specs.Queued.{oneMore, roomsWith}
-use Rattle.queues.specs.Ready.{Roomy}
+use Rattle.phases.specs.Plan.{other, room}
+use Rattle.queues.specs.Queued.{oneMore}
 
 -- where what rack i owes rack p stands
 abbrev pub cell : ℕ → ℕ → ℕ
@@ -21,6 +20,11 @@ cell i p = i * 64 + p
 pub record Owed (racks : List Rack) (places table : List ℕ) : Type 0 where
   pub counts : (i p : ℕ) → i < length racks → p < length racks → getD table (cell i p) 0 ≡ owes racks places i p
   pub long : length table ≡ 4096
+
+-- the list has how many free slots each rack has
+pub record Roomy (racks : List Rack) (places rooms : List ℕ) : Type 0 where
+  pub counts : (p : ℕ) → getD rooms p 0 ≡ room racks places p
+  pub long : length rooms ≡ 64
 
 -- both counts of a table
 pub record Tallied (racks : List Rack) (places owed rooms : List ℕ) : Type 0 where
@@ -34,6 +38,10 @@ awayBy places table g = not (free places g) and not (eqb (getD table g 0) (getD 
 -- what racks owe with slot g counted: a card that is away adds one
 unfoldable pub owesWith : List ℕ → List ℕ → ℕ → List ℕ → List ℕ
 owesWith places table g owed = pick (awayBy places table g) (oneMore owed (cell (getD table g 0) (getD table (dest places g) 0))) owed
+
+-- the free slots of each rack with slot g counted: a free slot adds one
+unfoldable pub roomsWith : List ℕ → List ℕ → ℕ → List ℕ → List ℕ
+roomsWith places table g rooms = pick (free places g) (oneMore rooms (getD table g 0)) rooms
 
 -- slot g is counted
 pub record Counted (places table : List ℕ) (g : ℕ) (owed rooms owed′ rooms′ : List ℕ) : Type 0 where

@@ -33,9 +33,10 @@ pub fn write_plan(job: Job, places: &[u16], racks: &[u8; 4096], lent: &mut [u16]
     let mut queue = [0u16; 4096];
     let mut heads = [0u16; 64];
     let mut tails = [0u16; 64];
-    let mut lows = [0u16; 64];
-    let mut rooms = [0u16; 64];
+    let mut firsts = [0u16; 64];
     let mut ends = [0u16; 64];
+    let mut bits = [0u64; 65];
+    let mut waiting: u64 = 0;
     arrivals::queue_up(
         job,
         places,
@@ -43,19 +44,20 @@ pub fn write_plan(job: Job, places: &[u16], racks: &[u8; 4096], lent: &mut [u16]
         &mut queue,
         &mut heads,
         &mut tails,
-        &mut lows,
-        &mut rooms,
+        &mut firsts,
         &mut ends,
+        &mut bits,
+        &mut waiting,
     );
     planning::plan_phase(
         job.racks,
-        places,
         &queue,
         &mut heads,
         &tails,
-        &mut lows,
-        &rooms,
+        &firsts,
         &ends,
+        &bits,
+        &mut waiting,
         lent,
     )
 }

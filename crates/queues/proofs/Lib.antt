@@ -5,6 +5,7 @@ pub mod OpenSlots
 pub mod Ready
 pub mod FirstSlots
 pub mod QueueSlot
+pub mod Openings
 pub mod Queueing
 pub mod AllQueued
 pub mod Opens

@@ -1,178 +1,227 @@
--- Laws of planning a phase rack by rack: what one rack more does to the pairs, the queues and the marks. Assumes nothing.
+-- Laws of planning a phase rack by rack: what one rack more does to the pairs, the queues and the racks that wait. Assumes nothing.
 use mathlib.Core.Path.{_≡_, refl, sym, ap, _∙_}
-use mathlib.Core.List.{List, [], _++_}
-use Prim.Native.Nat.{ℕ, _+_, _*_, _≤_, _<_, min}
+use mathlib.Core.Bool.{true, false}
+use mathlib.Core.List.{List, [], _++_, append-nil}
+use Prim.Native.Nat.{ℕ, zero, suc, _+_, _*_, _≤_, _<_, min}
 use native.Mathlib.Omega.{arith}
 use native.Mathlib.Numerals.{add-one}
-use native.Mathlib.Decide.{ℕ-discrete}
+use native.Mathlib.Decide.{ℕ-discrete, decLe}
+use lib.Dec.{ltb}
 use lib.ListN.{length, getD, set, length-set, length-append}
 use lib.Seq.{length-sets, getD-set-same, getD-set-other}
-use Rattle.counting.specs.Lists.{Pair, table, join, flat}
+use borrow.Author.Tests.{ltb-false}
+use Rattle.counting.specs.Tests.{pick}
+use Rattle.counting.specs.Lists.{table, join, flat}
+use Rattle.counting.proofs.Tests.{by-test, no-way}
 use Rattle.counting.proofs.Select.{sum-mono, sum-more}
 use Rattle.counting.proofs.Lists.{join-more, length-join}
 use Rattle.counting.proofs.Stores.{sets-flat-none, sets-flat-append}
-use Rattle.queues.specs.Queues.{Rows, opens, pairsFor, queuedPlan, served, servedFrom, Bounded, Roomed, Raised, Written, PhasePlanned}
-use Rattle.queues.proofs.Opens.{open-few}
-use Rattle.queues.proofs.Pairing.{served-same, served-cut, served-wide, served-all}
+use Rattle.bits.specs.Bits.{bitOn, turnedOff, Next}
+use Rattle.bits.proofs.Words.{turned-off-other}
+use Rattle.queues.specs.Queues.{Rows, pairsFor, queuedPlan, served, Bounded, Written, PhasePlanned}
+use Rattle.queues.proofs.Pairing.{served-end, served-le}
 
-module _ (rows : Rows) (places : List ℕ) where
+module _ (rows : Rows) where
   -- the plan of no racks
-  pub queued-none : queuedPlan 0 rows places ≡ []
+  pub queued-none : queuedPlan 0 rows ≡ []
   unfolding queuedPlan table join
   queued-none = refl
 
   -- the plan of one rack more
-  pub queued-more : (p : ℕ) → queuedPlan (p + 1) rows places ≡ queuedPlan p rows places ++ pairsFor rows places p
+  pub queued-more : (p : ℕ) → queuedPlan (p + 1) rows ≡ queuedPlan p rows ++ pairsFor rows p
   unfolding queuedPlan
-  queued-more p = rw (add-one p) (join-more p (pairsFor rows places))
+  queued-more p = rw (add-one p) (join-more p (pairsFor rows))
 
   -- a rack's pairs and those of the racks before it are no more than those of all
-  pub queued-le : (n p : ℕ) → p < n → length (queuedPlan p rows places) + length (pairsFor rows places p) ≤ length (queuedPlan n rows places)
+  pub queued-le : (n p : ℕ) → p < n → length (queuedPlan p rows) + length (pairsFor rows p) ≤ length (queuedPlan n rows)
   unfolding queuedPlan
   queued-le n p l =
-      let sized : ℕ → ℕ = λ q. length (pairsFor rows places q) in
+      let sized : ℕ → ℕ = λ q. length (pairsFor rows q) in
       omega (
         arith,
-        length-join p (pairsFor rows places),
-        length-join n (pairsFor rows places),
+        length-join p (pairsFor rows),
+        length-join n (pairsFor rows),
         sum-more p sized,
         sum-mono (p + 1) n sized (omega arith),
       )
 
--- p of n racks are planned; the queues and the marks of the others are those of the start
-pub record Planned (n p : ℕ) (rows : Rows) (places before after : List ℕ) (count : ℕ) (heads lows : List ℕ) : Type 0 where
+-- p of n racks are planned; the queues and the bits of the others are those of the start
+pub record Planned (n p : ℕ) (rows : Rows) (before after : List ℕ) (count : ℕ) (heads : List ℕ) (waiting : ℕ) : Type 0 where
   pub few : p ≤ n
-  pub done : PhasePlanned p rows places before after count heads lows
+  pub done : PhasePlanned p rows before after count heads waiting
   pub heads-rest : (q : ℕ) → p ≤ q → getD heads q 0 ≡ getD (rows .heads) q 0
-  pub lows-rest : (q : ℕ) → p ≤ q → getD lows q 0 ≡ getD (rows .lows) q 0
+  pub bits-rest : (q : ℕ) → p ≤ q → bitOn waiting q ≡ bitOn (rows .waiting) q
 
 -- the next rack's numbers are within their bounds
-pub record Inside (p : ℕ) (rows : Rows) (places after : List ℕ) (count : ℕ) (heads lows : List ℕ) : Type 0 where
+pub record Inside (p : ℕ) (rows : Rows) (after : List ℕ) (count : ℕ) (heads : List ℕ) : Type 0 where
   pub rack : p < 64
   pub head : getD heads p 0 ≤ getD (rows .tails) p 0
   pub tail : getD (rows .tails) p 0 ≤ 4096
-  pub low : getD lows p 0 ≤ getD (rows .ends) p 0
-  pub high : getD (rows .ends) p 0 ≤ length places
-  pub small : length places ≤ 4096
-  pub roomy : getD (rows .rooms) p 0 ≤ 4096
-  pub room : 2 * count + 2 * length (pairsFor rows places p) ≤ length after
+  pub low : getD (rows .firsts) p 0 ≤ getD (rows .ends) p 0
+  pub high : getD (rows .ends) p 0 ≤ 4096
+  pub room : 2 * count + 2 * length (pairsFor rows p) ≤ length after
 
--- no rack is planned yet
-pub planned-none : (n : ℕ) (rows : Rows) (places before : List ℕ) → Bounded n (length places) rows → Planned n 0 rows places before before 0 (rows .heads) (rows .lows)
-planned-none n rows places before b =
-    record {
-      few = omega arith;
-      done = record {
-        list = rw (queued-none rows places, sets-flat-none before 0);
-        count-is = rw (queued-none rows places);
-        heads-are = λ q l. absurd (omega arith);
-        heads-long = b .heads-long;
-        lows-are = λ q l. absurd (omega arith);
-        lows-long = b .lows-long;
-      };
-      heads-rest = λ q l. refl;
-      lows-rest = λ q l. refl;
-    }
+-- the racks before p are planned, and p is the next that waits, or there is none
+pub record Reached (n p : ℕ) (rows : Rows) (before after : List ℕ) (count : ℕ) (heads : List ℕ) (waiting : ℕ) : Type 0 where
+  pub planned : Planned n (min p n) rows before after count heads waiting
+  pub hit : p < 64 → bitOn waiting p ≡ true
+  pub within : p ≤ 64
 
-module _ {n p : ℕ} {rows : Rows} {places before after : List ℕ} {count : ℕ} {heads lows : List ℕ} (b : Bounded n (length places) rows) (c : Roomed n rows places) (s : Planned n p rows places before after count heads lows) where
-  -- the list is as long as it was
-  pub planned-long : length after ≡ length before
-  planned-long = ap length (s .done .list) ∙ length-sets before 0 (flat (queuedPlan p rows places))
+module _ {n : ℕ} {rows : Rows} {before : List ℕ} (b : Bounded n rows) where
+  -- no rack is planned yet
+  planned-none : Planned n 0 rows before before 0 (rows .heads) (rows .waiting)
+  planned-none =
+      record {
+        few = omega arith;
+        done = record {
+          list = rw (queued-none rows, sets-flat-none before 0);
+          count-is = rw (queued-none rows);
+          heads-are = λ q l. absurd (omega arith);
+          heads-long = b .heads-long;
+          idle = λ q l. absurd (omega arith);
+        };
+        heads-rest = λ q l. refl;
+        bits-rest = λ q l. refl;
+      }
 
-  -- all racks are planned
-  pub planned-all : n ≤ p → PhasePlanned n rows places before after count heads lows
-  planned-all l = let e : n ≡ p = omega (arith, s .few) in rw e (s .done)
-
-  module _ (m : p < n) where
-    -- the next rack's numbers are within their bounds
-    pub planned-inside : 2 * length (queuedPlan n rows places) ≤ length before → Inside p rows places after count heads lows
-    planned-inside r =
+  module _ {after : List ℕ} {count : ℕ} {heads : List ℕ} {waiting : ℕ} where
+    -- a rack whose bit is off has no pair
+    planned-skip : {p : ℕ} → Planned n p rows before after count heads waiting → p < n → bitOn waiting p ≡ false → Planned n (p + 1) rows before after count heads waiting
+    unfolding pairsFor
+    planned-skip {p} s m o =
+        let rest = s .heads-rest p (omega arith) in
+        let over : getD (rows .tails) p 0 ≤ getD (rows .heads) p 0 = b .idle p m (sym (s .bits-rest p (omega arith)) ∙ o) in
+        let none : pairsFor rows p ≡ [] = served-end (rows .bits) (rows .queue) (getD (rows .heads) p 0) (getD (rows .tails) p 0) (getD (rows .firsts) p 0) (getD (rows .ends) p 0) (omega (arith, b .queued p m)) in
+        let same : queuedPlan (p + 1) rows ≡ queuedPlan p rows = queued-more rows p ∙ rw (none, append-nil) in
         record {
-          rack = omega (arith, b .few);
-          head = rw (s .heads-rest p (omega arith)) (b .queued p m);
-          tail = b .within p m;
-          low = rw (s .lows-rest p (omega arith)) (b .marked p m);
-          high = b .ended p m;
-          small = b .small;
-          roomy = omega (arith, c p m, open-few places (getD (rows .lows) p 0) (getD (rows .ends) p 0), b .ended p m, b .small);
-          room = omega (arith, s .done .count-is, planned-long, queued-le rows places n p m);
+          few = omega arith;
+          done = record {
+            list = rw same (s .done .list);
+            count-is = rw same (s .done .count-is);
+            heads-are = λ q l. elim (ℕ-discrete q p) [
+              | yes e ↦ rw e (omega (arith, rest, ap length none))
+              | no e ↦ s .done .heads-are q (omega arith)
+            ];
+            heads-long = s .done .heads-long;
+            idle = λ q l f. elim (ℕ-discrete q p) [
+              | yes e ↦ rw e (omega (arith, over, rest))
+              | no e ↦ s .done .idle q (omega arith) f
+            ];
+          };
+          heads-rest = λ q l. s .heads-rest q (omega arith);
+          bits-rest = λ q l. s .bits-rest q (omega arith);
         }
 
-    -- its queue cut where its free slots end, and its mark
-    module _ {tail low : ℕ} (k : tail ≡ min (getD (rows .tails) p 0) (getD heads p 0 + getD (rows .rooms) p 0)) (o : Raised places (getD lows p 0) (getD (rows .ends) p 0) low) where
-      -- the cut queue begins before it ends, and ends no later
-      pub next-cut : (getD heads p 0 ≤ tail) × (tail ≤ getD (rows .tails) p 0)
-      next-cut = let h = b .queued p m in omega (arith, s .heads-rest p (omega arith))
+    -- nor have the racks up to the next whose bit is on
+    planned-to : {p : ℕ} → Planned n p rows before after count heads waiting → (q : ℕ) → p ≤ q → q ≤ n → ((k : ℕ) → p ≤ k → k < q → bitOn waiting k ≡ false)
+        → Planned n q rows before after count heads waiting
+    planned-to {p} s zero l m f = let e : p ≡ 0 = omega arith in rw e at s
+    planned-to {p} s (suc q) l m f = elim (decLe p q) [
+      | yes i ↦ rw (← (add-one q)) (planned-skip (planned-to s q i (omega arith) (λ k a c. f k a (omega arith))) (omega arith) (f q i (omega arith)))
+      | no i ↦ let e : p ≡ suc q = omega arith in rw e at s
+    ]
 
-      -- it lies in the list
-      queue-in : tail ≤ length (rows .queue)
-      queue-in = omega (arith, next-cut .1, b .within p m, b .queue-long)
+    -- that one is reached
+    pub reached-next : {p q : ℕ} → Planned n p rows before after count heads waiting → Next (bitOn waiting) p 64 q → Reached n q rows before after count heads waiting
+    reached-next {p} {q} s o =
+        record {
+          planned = planned-to s (min q n) (omega (arith, o .up, s .few)) (omega arith) (λ k l m. o .passed k l (omega arith));
+          hit = o .hit;
+          within = o .within;
+        }
 
-      -- each of its cards finds a free slot
-      all-find : tail ≤ getD heads p 0 + length (opens places low (getD (rows .ends) p 0))
-      all-find =
-          let e = c p m ∙ ap (λ (x : ℕ). length (opens places x (getD (rows .ends) p 0))) (sym (s .lows-rest p (omega arith))) ∙ ap length (o .same) in
-          omega arith
+  -- the first rack that waits
+  pub reached-first : {p : ℕ} → Next (bitOn (rows .waiting)) 0 64 p → Reached n p rows before before 0 (rows .heads) (rows .waiting)
+  reached-first o = reached-next planned-none o
 
-      -- in the rack itself
-      in-rack : servedFrom places (rows .queue) (getD heads p 0) tail low ≡ served places (rows .queue) (getD heads p 0) tail low (getD (rows .ends) p 0)
-      unfolding servedFrom
-      in-rack = served-wide places (rows .queue) tail (getD (rows .ends) p 0) (getD heads p 0) low (length places) (o .within) (b .ended p m) queue-in all-find
+module _ {n p : ℕ} {rows : Rows} {before after : List ℕ} {count : ℕ} {heads : List ℕ} {waiting : ℕ} (b : Bounded n rows) (r : Reached n p rows before after count heads waiting) where
+  -- the list is as long as it was
+  pub planned-long : length after ≡ length before
+  planned-long = ap length (r .planned .done .list) ∙ length-sets before 0 (flat (queuedPlan (min p n) rows))
 
-      -- the pairs of the next rack are those of its queue and its mark at the start
-      pub next-pairs : servedFrom places (rows .queue) (getD heads p 0) tail low ≡ pairsFor rows places p
-      unfolding pairsFor
-      next-pairs =
-          in-rack
-          ∙ sym (served-same places (rows .queue) tail (getD (rows .ends) p 0) (getD heads p 0) (getD lows p 0) low o)
-          ∙ rw (k, s .heads-rest p (omega arith), s .lows-rest p (omega arith))
-          (served-cut places (rows .queue) (getD (rows .tails) p 0) (getD (rows .ends) p 0) (getD (rows .heads) p 0) (getD (rows .lows) p 0) (getD (rows .rooms) p 0) (omega (arith, b .within p m, b .queue-long)) (c p m))
+  -- all racks are planned
+  pub planned-all : n ≤ p → PhasePlanned n rows before after count heads waiting
+  planned-all l = let e : min p n ≡ n = omega arith in rw e at (r .planned .done)
 
-      -- and as many as its cards
-      pub next-all : tail ≡ getD heads p 0 + length (servedFrom places (rows .queue) (getD heads p 0) tail low)
-      next-all =
-          served-all places (rows .queue) tail (getD (rows .ends) p 0) (getD heads p 0) low (next-cut .0) queue-in all-find
-          ∙ ap (λ (x : List Pair). getD heads p 0 + length x) (sym in-rack)
+  module _ (m : p < n) where
+    -- the racks before p are planned
+    here : Planned n p rows before after count heads waiting
+    here = let e : min p n ≡ p = omega arith in rw e at (r .planned)
 
-      module _ {after′ : List ℕ} {made : ℕ}
-          (w : Written (servedFrom places (rows .queue) (getD heads p 0) tail low) after (2 * count) after′ made) where
-        -- as many are written
-        pub next-made : made ≡ length (pairsFor rows places p)
-        next-made = w .count-is ∙ ap length next-pairs
+    -- p's queue is that of the start
+    head-is : getD heads p 0 ≡ getD (rows .heads) p 0
+    head-is = here .heads-rest p (omega arith)
 
-        -- no more than cards that wait
-        pub next-few : getD heads p 0 + made ≤ getD (rows .tails) p 0
-        next-few = omega (arith, w .count-is, next-all, next-cut .1)
+    -- its numbers are within their bounds
+    pub planned-inside : 2 * length (queuedPlan n rows) ≤ length before → Inside p rows after count heads
+    planned-inside c =
+        record {
+          rack = omega (arith, b .few);
+          head = omega (arith, head-is, b .queued p m);
+          tail = b .within p m;
+          low = b .begun p m;
+          high = b .ended p m;
+          room = omega (arith, here .done .count-is, planned-long, queued-le rows n p m);
+        }
 
-        -- the next rack is planned
-        pub planned-more : Planned n (p + 1) rows places before after′ (count + made) (set heads p (getD heads p 0 + made)) (set lows p low)
+    -- its pairs are those of its queue at the start
+    pub next-pairs : served (rows .bits) (rows .queue) (getD heads p 0) (getD (rows .tails) p 0) (getD (rows .firsts) p 0) (getD (rows .ends) p 0) ≡ pairsFor rows p
+    unfolding pairsFor
+    next-pairs = rw head-is
+
+    module _ {after′ : List ℕ} {made : ℕ}
+        (w : Written (served (rows .bits) (rows .queue) (getD heads p 0) (getD (rows .tails) p 0) (getD (rows .firsts) p 0) (getD (rows .ends) p 0)) after (2 * count) after′ made) where
+      -- as many are written
+      pub next-made : made ≡ length (pairsFor rows p)
+      next-made = w .count-is ∙ ap length next-pairs
+
+      -- no more than cards that wait
+      pub next-few : getD heads p 0 + made ≤ getD (rows .tails) p 0
+      next-few =
+          omega (arith, w .count-is, head-is, b .queued p m, served-le (rows .bits) (rows .queue) (getD heads p 0) (getD (rows .tails) p 0) (getD (rows .firsts) p 0) (getD (rows .ends) p 0) (omega (arith, head-is, b .queued p m)) (omega (arith, b .within p m, b .queue-long)))
+
+      module _ {waiting′ : ℕ} (e : waiting′ ≡ pick (ltb (getD heads p 0 + made) (getD (rows .tails) p 0)) waiting (turnedOff waiting p)) where
+        -- another rack's bit stays
+        bit-kept : (q : ℕ) → (q ≡ p → ⊥) → bitOn waiting′ q ≡ bitOn waiting q
+        bit-kept q d = by-test (ltb (getD heads p 0 + made) (getD (rows .tails) p 0))
+            (λ t. rw (e, t))
+            (λ t. rw (e, t) (turned-off-other waiting p q d))
+
+        -- p's bit goes off only where no card is left in its queue
+        bit-here : bitOn waiting′ p ≡ false → getD (rows .tails) p 0 ≤ getD heads p 0 + made
+        bit-here f = by-test (ltb (getD heads p 0 + made) (getD (rows .tails) p 0))
+            (λ t. absurd (no-way (r .hit (omega (arith, b .few))) (rw (e, t) at f)))
+            (λ t. ltb-false _ _ t)
+
+        -- p is planned
+        planned-more : Planned n (p + 1) rows before after′ (count + made) (set heads p (getD heads p 0 + made)) waiting′
         planned-more =
+            let s = here in
             record {
               few = omega arith;
               done = record {
-                list = w .list ∙ rw (next-pairs, queued-more rows places p, sets-flat-append before (queuedPlan p rows places) (pairsFor rows places p), s .done .list, s .done .count-is);
-                count-is = rw (queued-more rows places p, length-append) (omega (arith, s .done .count-is, next-made));
-                heads-are = heads-are;
+                list = w .list ∙ rw (next-pairs, queued-more rows p, sets-flat-append before (queuedPlan p rows) (pairsFor rows p), s .done .list, s .done .count-is);
+                count-is = rw (queued-more rows p, length-append) (omega (arith, s .done .count-is, next-made));
+                heads-are = λ q l. elim (ℕ-discrete q p) [
+                  | yes i ↦ rw i (head-at ∙ omega (arith, head-is, next-made))
+                  | no i ↦ head-other q i ∙ s .done .heads-are q (omega arith)
+                ];
                 heads-long = length-set heads p (getD heads p 0 + made) ∙ s .done .heads-long;
-                lows-are = lows-are;
-                lows-long = length-set lows p low ∙ s .done .lows-long;
+                idle = λ q l f. elim (ℕ-discrete q p) [
+                  | yes i ↦ let g : bitOn waiting′ p ≡ false = rw i at f in rw (i, head-at) (bit-here g)
+                  | no i ↦ rw (head-other q i) (s .done .idle q (omega arith) (sym (bit-kept q i) ∙ f))
+                ];
               };
-              heads-rest = λ q l. getD-set-other heads p q (getD heads p 0 + made) 0 (λ e. omega arith) ∙ s .heads-rest q (omega arith);
-              lows-rest = λ q l. getD-set-other lows p q low 0 (λ e. omega arith) ∙ s .lows-rest q (omega arith);
+              heads-rest = λ q l. head-other q (λ i. omega arith) ∙ s .heads-rest q (omega arith);
+              bits-rest = λ q l. bit-kept q (λ i. omega arith) ∙ s .bits-rest q (omega arith);
             }
           where
-            heads-are : (q : ℕ) → q < p + 1 → getD (set heads p (getD heads p 0 + made)) q 0 ≡ getD (rows .heads) q 0 + length (pairsFor rows places q)
-            heads-are q l = elim (ℕ-discrete q p) [
-              | yes e ↦
-                  rw (e, getD-set-same heads p (getD heads p 0 + made) 0 (omega (arith, b .few, s .done .heads-long)))
-                  (omega (arith, s .heads-rest p (omega arith), next-made))
-              | no e ↦ getD-set-other heads p q (getD heads p 0 + made) 0 e ∙ s .done .heads-are q (omega arith)
-            ]
+            head-at : getD (set heads p (getD heads p 0 + made)) p 0 ≡ getD heads p 0 + made
+            head-at = getD-set-same heads p (getD heads p 0 + made) 0 (omega (arith, b .few, here .done .heads-long))
 
-            lows-are : (q : ℕ) → q < p + 1 → Raised places (getD (rows .lows) q 0) (getD (rows .ends) q 0) (getD (set lows p low) q 0)
-            lows-are q l = elim (ℕ-discrete q p) [
-              | yes e ↦
-                  rw (e, getD-set-same lows p low 0 (omega (arith, b .few, s .done .lows-long)))
-                  (rw (s .lows-rest p (omega arith)) at o)
-              | no e ↦ rw (getD-set-other lows p q low 0 e) (s .done .lows-are q (omega arith))
-            ]
+            head-other : (q : ℕ) → (q ≡ p → ⊥) → getD (set heads p (getD heads p 0 + made)) q 0 ≡ getD heads q 0
+            head-other q i = getD-set-other heads p q (getD heads p 0 + made) 0 i
+
+        -- and the next rack that waits is reached
+        pub reached-more : {q : ℕ} → Next (bitOn waiting′) (p + 1) 64 q → Reached n q rows before after′ (count + made) (set heads p (getD heads p 0 + made)) waiting′
+        reached-more o = reached-next b planned-more o

@@ -7,10 +7,9 @@ use native.Mathlib.Omega.{arith}
 use lib.Dec.{eqb}
 use lib.ListN.{getD, set}
 use Rattle.counting.specs.Tests.{bit}
-use Rattle.racks.specs.Limits.{FREE}
-use Rattle.racks.specs.Table.{dest, free}
+use Rattle.racks.specs.Table.{dest}
 use Rattle.tables.specs.Tables.{namedSlot}
-use Rattle.queues.specs.Queued.{target, sends, queued, tailed, roomsWith, Queueable, Queued}
+use Rattle.queues.specs.Queued.{target, sends, queued, tailed, Queueable, Queued}
 use Rattle.queues.proofs.Counts.{more-by}
 
 -- what a test adds is at most 1
@@ -26,7 +25,7 @@ module _ (table places : List ℕ) (g n : ℕ) (en : n ≡ namedSlot g (dest pla
   at-target = ap (λ (k : ℕ). getD table k 0) en
 
   -- a slot that can be queued: what the code may read and write
-  module _ (tails rooms : List ℕ) (q : Queueable table places g tails rooms) where
+  module _ (tails : List ℕ) (q : Queueable table places g tails) where
     -- the tail of that rack's queue
     pub slot-racked : getD table n 0 < 64
     slot-racked = rw at-target (q .racked)
@@ -36,13 +35,11 @@ module _ (table places : List ℕ) (g n : ℕ) (en : n ≡ namedSlot g (dest pla
     slot-fits = rw at-target (q .fits)
 
   -- each store is made, and adds 0 where nothing is to be added
-  pub queued-slot : (queue tails rooms : List ℕ) (x y : ℕ) → x ≡ bit (not (eqb (getD table g 0) (getD table n 0))) → y ≡ bit (eqb (dest places g) FREE)
-      → Queued table places g queue tails rooms (set queue (getD tails (getD table n 0) 0) g) (set tails (getD table n 0) (getD tails (getD table n 0) 0 + x))
-      (set rooms (getD table g 0) (getD rooms (getD table g 0) 0 + y))
-  unfolding queued tailed sends free roomsWith
-  queued-slot queue tails rooms x y ex ey =
+  pub queued-slot : (queue tails : List ℕ) (x : ℕ) → x ≡ bit (not (eqb (getD table g 0) (getD table n 0)))
+      → Queued table places g queue tails (set queue (getD tails (getD table n 0) 0) g) (set tails (getD table n 0) (getD tails (getD table n 0) 0 + x))
+  unfolding queued tailed sends
+  queued-slot queue tails x ex =
       record {
         queue-is = rw at-target;
         tails-are = rw (ex, at-target) (more-by (not (eqb (getD table g 0) (target table places g))) (target table places g) tails);
-        rooms-are = rw ey (more-by (eqb (dest places g) FREE) (getD table g 0) rooms);
       }

@@ -10,20 +10,18 @@ use lib.ListN.{length, getD, set, length-set, replicate, length-replicate}
 use lib.Seq.{getD-set-same, getD-set-other}
 use borrow.Author.Tests.{eq-eqb}
 use Rattle.counting.specs.Tests.{_and_}
-use Rattle.counting.specs.Count.{count, select}
+use Rattle.counting.specs.Count.{select}
 use Rattle.counting.proofs.Tests.{by-test, off, no-way, and-off-l}
-use Rattle.counting.proofs.Count.{count-none}
 use Rattle.counting.proofs.Select.{select-on, select-off}
 use Rattle.racks.specs.Racks.{Rack, base, slots}
-use Rattle.racks.specs.Table.{dest, free, rackTo, onRack, away, awayTo, freeOn}
+use Rattle.racks.specs.Table.{dest, free, rackTo, onRack, away, awayTo}
 use Rattle.racks.proofs.Geometry.{base-mono, end-le, rack-lt}
 use Rattle.racks.specs.Legal.{Legal, Spared}
 use Rattle.racks.proofs.LegalTable.{legal-dest}
-use Rattle.racks.proofs.Away.{away-held, to-away, to-rack, to-is, on-free, on-rack, on-is}
+use Rattle.racks.proofs.Away.{away-held, to-away, to-rack, to-is}
 use Rattle.tables.specs.Tables.{namedSlot, Filled}
 use Rattle.queues.specs.Queues.{part}
-use Rattle.queues.specs.Queued.{Firsts, target, sends, queued, tailed, oneMore, roomsWith, Queueable, Queued}
-use Rattle.queues.proofs.Counts.{zeros, one-count, one-few, one-long}
+use Rattle.queues.specs.Queued.{Firsts, target, sends, queued, tailed, oneMore, Queueable, Queued}
 use Rattle.queues.proofs.Stretch.{part-none, part-push, part-before, part-behind}
 use Rattle.queues.proofs.Fits.{tailAt, tail-none, tail-up, tail-on, tail-off, tail-in, tail-room}
 
@@ -41,21 +39,6 @@ pub record Queueing (racks : List Rack) (places : List ℕ) (g : ℕ) (queue tai
   pub waits : (p : ℕ) → p < length racks → part queue (base racks p) (tailAt racks places g p) ≡ select g (awayTo racks places p)
   pub queue-long : length queue ≡ 4096
   pub tails-long : length tails ≡ 64
-
--- the free slots of each rack among the first g slots
-pub record RoomsTo (racks : List Rack) (places : List ℕ) (g : ℕ) (rooms : List ℕ) : Type 0 where
-  pub counts : (p : ℕ) → getD rooms p 0 ≡ count g (freeOn racks places p)
-  pub few : (p : ℕ) → getD rooms p 0 ≤ g
-  pub long : length rooms ≡ 64
-
--- before the first slot none is counted
-pub rooms-none : (racks : List Rack) (places : List ℕ) → RoomsTo racks places 0 (replicate 64 0)
-rooms-none racks places =
-    record {
-      counts = λ p. zeros 64 p ∙ sym (count-none (freeOn racks places p));
-      few = λ p. omega (arith, zeros 64 p);
-      long = length-replicate {A = ℕ} 64 0;
-    }
 
 -- before the first slot each queue is empty, and ends at its rack's first slot
 pub queueing-none : (racks : List Rack) (places tails : List ℕ) → Firsts racks tails → Queueing racks places 0 (replicate 4096 0) tails
@@ -118,21 +101,6 @@ module _ (racks : List Rack) (places table : List ℕ) (t : Tabled racks places 
       (λ f. ap not (eq-eqb (getD table g 0) (target table places g) (sym (target-free f))) ∙ sym (and-off-l _ (ap not f)))
       (λ f. rw (f, t .filled g l, target-is f))
 
-  -- the free slots with slot g counted
-  pub rooms-more : (rooms rooms′ : List ℕ) → RoomsTo racks places g rooms → rooms′ ≡ roomsWith places table g rooms → RoomsTo racks places (g + 1) rooms′
-  unfolding roomsWith
-  rooms-more rooms rooms′ c e =
-      let k : ℕ = getD table g 0 in
-      let r : free places g ≡ true → k < length rooms = λ _. omega (arith, here-lt, c .long, t .few) in
-      record {
-        counts = λ p.
-            one-count (free places g) k rooms rooms′ e r g p (freeOn racks places p) (c .counts p)
-            (λ f q. on-is racks places p g f (sym (q ∙ t .filled g l)))
-            (λ n. off (λ o. n (on-free racks places p g o) (sym (t .filled g l ∙ on-rack racks places p g o))));
-        few = one-few (free places g) k rooms rooms′ e r g (c .few);
-        long = one-long (free places g) k rooms rooms′ e r ∙ c .long;
-      }
-
   module _ (queue tails : List ℕ) (q : Queueing racks places g queue tails) where
     -- the tail of that rack's queue
     target-tail : getD tails (target table places g) 0 ≡ tailAt racks places g (target table places g)
@@ -145,13 +113,12 @@ module _ (racks : List Rack) (places table : List ℕ) (t : Tabled racks places 
       sent-to = to-is racks places (target table places g) g a (sym (target-is (away-held racks places g a)))
 
     -- the slot can be queued
-    pub queueable : (rooms : List ℕ) → RoomsTo racks places g rooms → Queueable table places g tails rooms
-    queueable rooms c =
+    pub queueable : Queueable table places g tails
+    queueable =
         record {
           slot = omega (arith, t .legal .long);
           small = omega (arith, t .small);
           rack = omega (arith, here-lt, t .few);
-          rooms-fit = omega (arith, c .few (getD table g 0), t .small);
           named = named-lt;
           racked = omega (arith, target-lt, t .few);
           fits = omega (arith, target-tail, room-at (target table places g) target-lt, end-le racks (target table places g) target-lt, t .small);
@@ -201,9 +168,9 @@ module _ (racks : List Rack) (places table : List ℕ) (t : Tabled racks places 
         room = omega (arith, q .queue-long, room-at p m, end-le racks p m, t .small)
 
     -- the queues after slot g
-    pub queueing-more : (rooms queue′ tails′ rooms′ : List ℕ) → Queued table places g queue tails rooms queue′ tails′ rooms′ → Queueing racks places (g + 1) queue′ tails′
+    pub queueing-more : (queue′ tails′ : List ℕ) → Queued table places g queue tails queue′ tails′ → Queueing racks places (g + 1) queue′ tails′
     unfolding queued tailed oneMore
-    queueing-more rooms queue′ tails′ rooms′ s = rw (s .queue-is, s .tails-are, sends-is)
+    queueing-more queue′ tails′ s = rw (s .queue-is, s .tails-are, sends-is)
         (by-test (away racks places g)
         (λ a. rw (a, target-tail) (queueing-sent (target table places g) target-lt (sent-to a)))
         (λ a. rw (a, target-tail) (queueing-kept (target table places g) target-lt a)))

@@ -1,4 +1,4 @@
--- The pass that fills the queues and counts free slots, a slot at a time, as the code makes it. Assumes nothing: these are definitions.
+-- The pass that fills the queues, a slot at a time, as the code makes it. Assumes nothing: these are definitions.
 use mathlib.Core.Path.{_≡_}
 use mathlib.Core.Bool.{Bool, not}
 use mathlib.Core.List.{List}
@@ -7,7 +7,7 @@ use lib.Dec.{eqb}
 use lib.ListN.{length, getD, set}
 use Rattle.counting.specs.Tests.{pick}
 use Rattle.racks.specs.Racks.{Rack, base}
-use Rattle.racks.specs.Table.{dest, free}
+use Rattle.racks.specs.Table.{dest}
 use Rattle.tables.specs.Tables.{namedSlot}
 
 -- the list has each rack's first slot
@@ -38,22 +38,16 @@ tailed table places g tails =
     let p = target table places g in
     pick (sends table places g) (oneMore tails p) tails
 
--- the free slots of each rack with slot g counted: a free slot adds one
-unfoldable pub roomsWith : List ℕ → List ℕ → ℕ → List ℕ → List ℕ
-roomsWith places table g rooms = pick (free places g) (oneMore rooms (getD table g 0)) rooms
-
--- slot g can be queued and counted: it and its card's destination are slots, the table has racks there, its card's queue and its rack's count have room
-pub record Queueable (table places : List ℕ) (g : ℕ) (tails rooms : List ℕ) : Type 0 where
+-- slot g can be queued: it and its card's destination are slots, the table has racks there, and its card's queue has room
+pub record Queueable (table places : List ℕ) (g : ℕ) (tails : List ℕ) : Type 0 where
   pub slot : g < length places
   pub small : g < 4096
   pub rack : getD table g 0 < 64
-  pub rooms-fit : getD rooms (getD table g 0) 0 < 65535
   pub named : namedSlot g (dest places g) < 4096
   pub racked : target table places g < 64
   pub fits : getD tails (target table places g) 0 < 4096
 
--- what slot g does to the queues, their tails and the counts of free slots
-pub record Queued (table places : List ℕ) (g : ℕ) (queue tails rooms queue′ tails′ rooms′ : List ℕ) : Type 0 where
+-- what slot g does to the queues and their tails
+pub record Queued (table places : List ℕ) (g : ℕ) (queue tails queue′ tails′ : List ℕ) : Type 0 where
   pub queue-is : queue′ ≡ queued table places g queue tails
   pub tails-are : tails′ ≡ tailed table places g tails
-  pub rooms-are : rooms′ ≡ roomsWith places table g rooms

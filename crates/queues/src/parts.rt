@@ -1,3 +1,4 @@
-// What the layers above share: the queues of arrivals, and the pairs of a phase.
+// What the layers above share: the queues of arrivals, the free slots as a set, and the pairs of a phase.
 pub mod arrivals;
+pub mod openings;
 pub mod planning;

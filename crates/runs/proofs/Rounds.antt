@@ -20,6 +20,8 @@ use Rattle.racks.specs.Job.{racksOf}
 use Rattle.racks.specs.declared.Job.{Job}
 use Rattle.racks.specs.declared.Tally.{Tally}
 use Rattle.racks.specs.Legal.{Legal}
+use Rattle.racks.proofs.Jobs.{sound-few}
+use Rattle.tables.specs.Tables.{Filled}
 use Rattle.phases.specs.Plan.{plan}
 use Rattle.phases.proofs.Plans.{plan-aways}
 use Rattle.plans.specs.Owed.{Owed}
@@ -34,7 +36,7 @@ use Rattle.moves.proofs.Phases.{HasPair, aways-none, aways-some, phases-none, p
 use Rattle.moves.proofs.FirstFit.{first-fit}
 use Rattle.budgets.specs.Engine.{PhaseRun, Runnable}
 use Rattle.budgets.proofs.NextPhase.{plan-in-turn}
-use Rattle.budgets.proofs.Turns.{Fixed, Turn, turn-runnable, turn-next, turn-done, turn-first, made-is, held-is}
+use Rattle.budgets.proofs.Turns.{Fixed, Turn, going-fixed, turn-runnable, turn-next, turn-done, turn-first, made-is, held-is}
 use Rattle.runs.specs.Run.{hasPairs, gathered}
 use Rattle.runs.specs.Kept.{Payable, Paid, paid}
 use Rattle.runs.specs.Gathered.{phaseCounts, Set, Gathered}
@@ -63,31 +65,37 @@ pub record Round (racks : List Rack) (b k : ℕ) (h₀ : Held) (rows : Rows) (h 
   pub owed : Owed racks (h .places) owes
   pub agree : awaits ≡ owes
 
-module _ (racks : List Rack) (n : ℕ) (table : List ℕ) (f : Fixed racks n table) (b k : ℕ) (h₀ : Held) (rows : Rows) (h : Held) (pairs : List ℕ) (left : ℕ)
+-- what does not change from round to round
+pub record Steady (racks : List Rack) (n : ℕ) (table : List ℕ) : Type 0 where
+  pub fixed : Fixed racks n
+  pub filled : Filled racks table
+  pub few : length racks ≤ 64
+
+module _ (racks : List Rack) (n : ℕ) (table : List ℕ) (f : Steady racks n table) (b k : ℕ) (h₀ : Held) (rows : Rows) (h : Held) (pairs : List ℕ) (left : ℕ)
     (t : Tally) (owes awaits : List ℕ) (r : Round racks b k h₀ rows h pairs left t owes awaits) (l : 0 < left) where
   away : someAway racks (h .places) ≡ true
   away = by-test (someAway racks (h .places)) (λ e. e) (λ e. absurd (omega (arith, r .left-is, aways-none racks (h .places) e)))
 
   -- a phase can be run
-  pub round-runnable : Runnable n b rows h table pairs
-  round-runnable = turn-runnable racks n table f b k h₀ rows h pairs left (r .turn) l
+  pub round-runnable : Runnable n b rows h pairs
+  round-runnable = turn-runnable racks n (f .fixed) b k h₀ rows h pairs left (r .turn) l
 
-  module _ (made : ℕ) (h′ : Held) (pairs′ heads lows rooms : List ℕ) (p : PhaseRun n b left rows h table pairs made h′ pairs′ heads lows rooms) where
+  module _ (made : ℕ) (h′ : Held) (pairs′ heads bits : List ℕ) (waiting : ℕ) (p : PhaseRun n b left rows h pairs made h′ pairs′ heads bits waiting) where
     abbrev all : List Pair
     all = plan racks (h .places)
 
     -- the whole plan is carried
     whole : made ≡ length (plan racks (h .places))
-    whole = omega (arith, made-is racks n table f b k h₀ rows h pairs left (r .turn) l made h′ pairs′ heads lows rooms p, plan-aways racks (h .places), r .left-is)
+    whole = omega (arith, made-is racks n (f .fixed) b k h₀ rows h pairs left (r .turn) l made h′ pairs′ heads bits waiting p, plan-aways racks (h .places), r .left-is)
 
     taken : take left (plan racks (h .places)) ≡ plan racks (h .places)
     taken = take-all left (plan racks (h .places)) (omega (arith, plan-aways racks (h .places), r .left-is))
 
     held-whole : h′ ≡ carried b (plan racks (h .places)) h
-    held-whole = held-is racks n table f b k h₀ rows h pairs left (r .turn) l made h′ pairs′ heads lows rooms p ∙ ap (λ (ms : List Pair). carried b ms h) taken
+    held-whole = held-is racks n (f .fixed) b k h₀ rows h pairs left (r .turn) l made h′ pairs′ heads bits waiting p ∙ ap (λ (ms : List Pair). carried b ms h) taken
 
     some : 0 < made
-    some = omega (arith, whole, first-fit (f .spared) .has-pair (h .places) (r .turn .legal) away)
+    some = omega (arith, whole, first-fit (f .fixed .spared) .has-pair (h .places) (r .turn .legal) away)
 
     in-turn : InTurn racks (h .places) (plan racks (h .places))
     in-turn = plan-in-turn racks (h .places) rows (r .turn .legal) (r .turn .ready l)
@@ -95,17 +103,17 @@ module _ (racks : List Rack) (n : ℕ) (table : List ℕ) (f : Fixed racks n tab
     -- the pairs carried, as they stand in the list
     pub pairs-carried : pairsIn pairs′ 0 (2 * made) ≡ plan racks (h .places)
     pairs-carried =
-        let e : queuedPlan n rows (h .places) ≡ plan racks (h .places) = ready-count racks (h .places) rows (r .turn .ready l) n (f .racks-are) in
+        let e : queuedPlan n rows ≡ plan racks (h .places) = ready-count racks (h .places) rows (r .turn .ready l) n (f .fixed .racks-are) in
         pairs-of pairs′ pairs 0 (2 * made) made (plan racks (h .places)) (rw (← e) (p .list)) (omega (arith, length-flat (plan racks (h .places)), plan-aways racks (h .places), r .left-is, r .turn .room, few)) (omega arith) (omega (arith, whole))
         ∙ take-all made (plan racks (h .places)) (omega (arith, whole))
       where
         few : aways racks (h .places) ≤ 4096
-        few = omega (arith, aways-few racks (h .places), f .small)
+        few = omega (arith, aways-few racks (h .places), f .fixed .small)
 
     -- each is owed, and awaited
     pub round-payable : Payable table (pairsIn pairs′ 0 (2 * made)) owes × Payable table (pairsIn pairs′ 0 (2 * made)) awaits
     round-payable =
-        let o = owed-payable table (f .filled) (f .few) (f .small) (r .turn .legal) in-turn (r .owed) in
+        let o = owed-payable table (f .filled) (f .few) (f .fixed .small) (r .turn .legal) in-turn (r .owed) in
         rw (pairs-carried, r .agree) (o, o)
 
     pub made-some : 0 < made
@@ -115,23 +123,23 @@ module _ (racks : List Rack) (n : ℕ) (table : List ℕ) (f : Fixed racks n tab
     made-left = omega (arith, whole, plan-aways racks (h .places), r .left-is)
 
     pub pairs-long : 2 * made ≤ length pairs′
-    pairs-long = rw (p .list, length-sets) (omega (arith, made-left, r .left-is, aways-few racks (h .places), f .small, r .turn .room))
+    pairs-long = rw (p .list, length-sets) (omega (arith, made-left, r .left-is, aways-few racks (h .places), f .fixed .small, r .turn .room))
 
     -- the next round
     pub round-next : (t′ : Tally) (owes′ awaits′ : List ℕ) → Paid table (pairsIn pairs′ 0 (2 * made)) owes awaits t owes′ awaits′ t′
-        → Round racks b k h₀ (rowsOf (rows .queue) heads (rows .tails) lows rooms (rows .ends)) h′ pairs′ (left - made) (record { phases = t′ .phases + 1; moves = t′ .moves; copies = t′ .copies }) owes′ awaits′
+        → Round racks b k h₀ (rowsOf (rows .queue) heads (rows .tails) (rows .firsts) (rows .ends) bits waiting) h′ pairs′ (left - made) (record { phases = t′ .phases + 1; moves = t′ .moves; copies = t′ .copies }) owes′ awaits′
     round-next t′ owes′ awaits′ q =
         let a = aways-carried (r .turn .legal) in-turn in
         let places-are : h′ .places ≡ carriedPlaces (plan racks (h .places)) (h .places) = ap (λ (x : Held). x .places) held-whole in
-        let step : length (phases racks (h .places)) ≡ suc (length (phases racks (h′ .places))) = rw places-are (ap length (phases-step (first-fit (f .spared)) (r .turn .legal) away)) in
+        let step : length (phases racks (h .places)) ≡ suc (length (phases racks (h′ .places))) = rw places-are (ap length (phases-step (first-fit (f .fixed .spared)) (r .turn .legal) away)) in
         let ms : length (pairsIn pairs′ 0 (2 * made)) ≡ made = ap length pairs-carried ∙ sym whole in
         record {
-          turn = turn-next racks n table f b k h₀ rows h pairs left (r .turn) l made h′ pairs′ heads lows rooms p (λ z. omega (arith, some));
+          turn = turn-next racks n (f .fixed) b k h₀ rows h pairs left (r .turn) l made h′ pairs′ heads bits waiting p (λ z. omega (arith, some));
           left-is = rw places-are (omega (arith, a, whole, r .left-is));
           phases-are = omega (arith, step, r .phases-are, ap (λ (x : Tally). x .phases) (q .tally-is));
           moves-are = omega (arith, r .moves-are, ms, made-left, ap (λ (x : Tally). x .moves) (q .tally-is));
           copies-are = ap (λ (x : Tally). x .copies) (q .tally-is) ∙ r .copies-are;
-          owed = rw (places-are, q .owes-are, pairs-carried) (owed-paid table (f .filled) (f .few) (f .small) (r .turn .legal) in-turn (r .owed));
+          owed = rw (places-are, q .owes-are, pairs-carried) (owed-paid table (f .filled) (f .few) (f .fixed .small) (r .turn .legal) in-turn (r .owed));
           agree = q .awaits-are ∙ ap (paid table (pairsIn pairs′ 0 (2 * made))) (r .agree) ∙ sym (q .owes-are);
         }
 
@@ -141,6 +149,9 @@ tally-is t x y z p q r = rw (← p, ← q, ← r)
 
 -- a run from its start to its end
 module _ {job : Job} {b : ℕ} {rows : Rows} {h₀ : Held} {table pairs owes awaits : List ℕ} {due : ℕ} (s : Set job b rows h₀ table pairs owes awaits due) where
+  pub set-steady : Steady (racksOf job) (job .racks) table
+  set-steady = record { fixed = going-fixed (s .going); filled = s .filled; few = sound-few job (s .going .sound) }
+
   -- the first round
   pub round-first : Round (racksOf job) b due h₀ rows h₀ pairs due noCounts owes awaits
   round-first =
@@ -160,12 +171,12 @@ module _ {job : Job} {b : ℕ} {rows : Rows} {h₀ : Held} {table pairs owes awa
   -- as many moves as cards are awaited are all moves
   all-moves : budget (racksOf job) due (h₀ .places) ≡ join (phases (racksOf job) (h₀ .places))
   unfolding budget
-  all-moves = take-all due (join (phases (racksOf job) (h₀ .places))) (omega (arith, s .due-is, phases-moves (first-fit (s .going .spared)) legal₀))
+  all-moves = take-all due (join (phases (racksOf job) (h₀ .places))) (omega (arith, s .due-is, phases-moves (first-fit (s .going .sound .spared)) legal₀))
 
   -- a run has few phases
   pub phases-few : length (phases (racksOf job) (h₀ .places)) ≤ 4096
   phases-few =
-      omega (arith, all-few (phases-pairs (first-fit (s .going .spared)) legal₀), phases-moves (first-fit (s .going .spared)) legal₀, aways-few (racksOf job) (h₀ .places), s .going .sound .small)
+      omega (arith, all-few (phases-pairs (first-fit (s .going .sound .spared)) legal₀), phases-moves (first-fit (s .going .sound .spared)) legal₀, aways-few (racksOf job) (h₀ .places), s .going .sound .small)
 
   pub due-few : due ≤ 4096
   due-few = omega (arith, s .due-is, aways-few (racksOf job) (h₀ .places), s .going .sound .small)
@@ -176,7 +187,7 @@ module _ {job : Job} {b : ℕ} {rows : Rows} {h₀ : Held} {table pairs owes awa
   unfolding gathered phaseCounts
   round-done {h} {t} r z =
       let racks = racksOf job in
-      let fit = first-fit (s .going .spared) in
+      let fit = first-fit (s .going .sound .spared) in
       let here : someAway racks (h .places) ≡ false = by-test (someAway racks (h .places)) (λ e. absurd (omega (arith, r .left-is, aways-some racks (h .places) e))) (λ e. e) in
       let none-left = ap length (phases-none racks (h .places) here) in
       let held : h ≡ carried b (join (phases racks (h₀ .places))) h₀ = turn-done (r .turn) z .held-is ∙ ap (λ (ms : List Pair). carried b ms h₀) all-moves in

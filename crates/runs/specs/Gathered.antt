@@ -9,6 +9,7 @@ use Rattle.racks.specs.Table.{aways}
 use Rattle.racks.specs.Job.{racksOf}
 use Rattle.racks.specs.declared.Job.{Job}
 use Rattle.racks.specs.declared.Tally.{Tally}
+use Rattle.tables.specs.Tables.{Filled}
 use Rattle.plans.specs.Owed.{Owed}
 use Rattle.queues.specs.Queues.{Rows}
 use Rattle.moves.specs.Moves.{Held}
@@ -22,9 +23,10 @@ use Rattle.runs.specs.Kept.{Awaited}
 unfoldable pub phaseCounts : List Rack → List ℕ → Tally
 phaseCounts racks places = record { phases = matching hasPairs (phases racks places); moves = length (join (phases racks places)); copies = 0 }
 
--- what the phases of a run need: as the engine does, with both tables of counts, and how many cards are awaited
+-- what the phases of a run need: as the engine does, with each slot's rack, both tables of counts, and how many cards are awaited
 pub record Set (job : Job) (b : ℕ) (rows : Rows) (h : Held) (table pairs owes awaits : List ℕ) (due : ℕ) : Type 0 where
-  pub going : Going job b rows h table pairs
+  pub going : Going job b rows h pairs
+  pub filled : Filled (racksOf job) table
   pub owed : Owed (racksOf job) (h .places) owes
   pub agree : awaits ≡ owes
   pub due-is : due ≡ aways (racksOf job) (h .places)

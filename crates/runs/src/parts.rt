@@ -7,7 +7,6 @@ ghost use Rattle.counting.specs.Checks.{first};
 ghost use Rattle.racks.specs.Racks.{slots};
 ghost use Rattle.racks.specs.Numbers.{tableChecks};
 ghost use Rattle.racks.specs.Job.{racksOf, Sound};
-ghost use Rattle.racks.specs.Legal.{Spared};
 ghost use Rattle.tables.specs.Tables.{Filled};
 ghost use Rattle.moves.specs.Parts.{held};
 ghost use Rattle.runs.specs.Gathered.{PhasesMade, Ran};
@@ -27,14 +26,16 @@ pub fn make_phases(
     cards: &mut [u8],
     table: &[u8; 4096],
 ) -> Tally
-    requires { ⌜ Sound job × Spared (racksOf job) × Filled (racksOf job) (now table) × (first (tableChecks (racksOf job) (now places)) ≡ 0) × (length (now cards) ≡ slots (racksOf job) * b) ⌝ }
+    requires { ⌜ Sound job × Filled (racksOf job) (now table) × (first (tableChecks (racksOf job) (now places)) ≡ 0) × (length (now cards) ≡ slots (racksOf job) * b) ⌝ }
     ensures { λ r. ⌜ PhasesMade (racksOf job) b (held (now (places .entry)) (now (cards .entry))) (held (now (places .exit)) (now (cards .exit))) r ⌝ }
 {
     let mut queue = [0u16; 4096];
     let mut heads = [0u16; 64];
     let mut tails = [0u16; 64];
-    let mut lows = [0u16; 64];
+    let mut firsts = [0u16; 64];
     let mut ends = [0u16; 64];
+    let mut bits = [0u64; 65];
+    let mut waiting: u64 = 0;
     let mut owes = [0u16; 4096];
     let mut rooms = [0u16; 64];
     let mut pairs = [0u16; 8192];
@@ -46,9 +47,10 @@ pub fn make_phases(
         &mut queue,
         &mut heads,
         &mut tails,
-        &mut lows,
-        &mut rooms,
+        &mut firsts,
         &mut ends,
+        &mut bits,
+        &mut waiting,
     );
     let mut awaits = owes;
     let due = awaited::count_awaited(job, places, &awaits);
@@ -62,9 +64,10 @@ pub fn make_phases(
         &queue,
         &mut heads,
         &tails,
-        &mut lows,
-        &mut rooms,
+        &firsts,
         &ends,
+        &mut bits,
+        &mut waiting,
         &mut pairs,
         &mut owes,
         &mut awaits,
@@ -79,7 +82,7 @@ pub fn run_cards(
     cards: &mut [u8],
     table: &[u8; 4096],
 ) -> Tally
-    requires { ⌜ Sound job × Spared (racksOf job) × Filled (racksOf job) (now table) × (first (tableChecks (racksOf job) (now places)) ≡ 0) × (length (now cards) ≡ slots (racksOf job) * b) × (b ≤ 256) ⌝ }
+    requires { ⌜ Sound job × Filled (racksOf job) (now table) × (first (tableChecks (racksOf job) (now places)) ≡ 0) × (length (now cards) ≡ slots (racksOf job) * b) × (b ≤ 256) ⌝ }
     ensures { λ r. ⌜ Ran (racksOf job) b (held (now (places .entry)) (now (cards .entry))) (held (now (places .exit)) (now (cards .exit))) r ⌝ }
 {
     let made = make_phases(job, b, places, cards, table);

@@ -1,10 +1,8 @@
-use mathlib.Core.Path.{_≡_, sym, ap, subst, _∙_}
+use mathlib.Core.Path.{_≡_, sym, ap, _∙_}
 use Rattle.counting.specs.Checks.{first}
 use Rattle.racks.specs.Racks.{ofCaps}
 use Rattle.racks.specs.Numbers.{cardChecks}
 use Rattle.racks.specs.Answers.{answer}
-use Rattle.racks.specs.Legal.{Spared}
-use Rattle.racks.proofs.LegalTable.{spared-caps}
 use Rattle.tables.proofs.Tables.{Open, of-sound, of-cards, open-cards, open-long}
 use Rattle.moves.specs.Parts.{held}
 use Rattle.budgets.proofs.Budgeted.{made-caps, budgeted-refused, budgeted-done}
@@ -54,7 +52,6 @@ move-cards-requires c κs =
     let n = c .before .before .before .before .cards-number in
     let o = opened e in (
       o .sound,
-      subst Spared (sym (o .racks)) (spared-caps (s .args .caps .now)),
       o .filled,
       o .legal,
       open-long (s .args .caps .now) (j .of .result) (j .of .ensures) (s .args .places .now) _ (s .args .b) (s .args .cards .now) _ (n .ensures) (e .if1 .left),

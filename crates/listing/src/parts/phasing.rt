@@ -6,7 +6,6 @@ ghost use Rattle.counting.specs.Checks.{first};
 ghost use Rattle.racks.specs.Racks.{slots};
 ghost use Rattle.racks.specs.Numbers.{tableChecks};
 ghost use Rattle.racks.specs.Job.{racksOf, Sound};
-ghost use Rattle.racks.specs.Legal.{Spared};
 ghost use Rattle.tables.specs.Tables.{Filled};
 ghost use Rattle.queues.specs.Queues.{rowsOf};
 ghost use Rattle.moves.specs.Parts.{held};
@@ -44,16 +43,16 @@ pub fn put_rounds(
     b: usize,
     places: &mut [u16],
     cards: &mut [u8],
-    table: &[u8; 4096],
     queue: &[u16; 4096],
     heads: &mut [u16; 64],
     tails: &[u16; 64],
-    lows: &mut [u16; 64],
-    rooms: &mut [u16; 64],
+    firsts: &[u16; 64],
     ends: &[u16; 64],
+    bits: &mut [u64; 65],
+    waiting: &mut u64,
     pairs: &mut [u16],
 ) -> Phased
-    requires { ⌜ Going job b (rowsOf (now queue) (now heads) (now tails) (now lows) (now rooms) (now ends)) (held (now places) (now cards)) (now table) (now pairs) × Room (phaseLines 1 (phases (racksOf job) (now places))) 0 (now out) ⌝ }
+    requires { ⌜ Going job b (rowsOf (now queue) (now heads) (now tails) (now firsts) (now ends) (now bits) (now waiting)) (held (now places) (now cards)) (now pairs) × Room (phaseLines 1 (phases (racksOf job) (now places))) 0 (now out) ⌝ }
     ensures { λ r. ⌜ PhasesPut (racksOf job) b (held (now (places .entry)) (now (cards .entry))) (held (now (places .exit)) (now (cards .exit))) (now (out .entry)) (now (out .exit)) r ⌝ }
 {
     let mut left = job.slots;
@@ -66,13 +65,13 @@ pub fn put_rounds(
             left,
             places,
             cards,
-            table,
             queue,
             heads,
             tails,
-            lows,
-            rooms,
+            firsts,
             ends,
+            bits,
+            waiting,
             pairs,
         );
         if made == 0 {
@@ -85,7 +84,7 @@ pub fn put_rounds(
     counted(k, job.slots, next)
 }
 
-// All phases of a legal table with its cards, listed: the queues, marks and counts of free slots, made and lent.
+// All phases of a legal table with its cards, listed: the queues and the set of free slots, made and lent.
 pub fn put_phases(
     out: &mut [u8],
     job: Job,
@@ -94,15 +93,16 @@ pub fn put_phases(
     cards: &mut [u8],
     table: &[u8; 4096],
 ) -> Phased
-    requires { ⌜ Sound job × Spared (racksOf job) × Filled (racksOf job) (now table) × (first (tableChecks (racksOf job) (now places)) ≡ 0) × (length (now cards) ≡ slots (racksOf job) * b) × Room (phaseLines 1 (phases (racksOf job) (now places))) 0 (now out) ⌝ }
+    requires { ⌜ Sound job × Filled (racksOf job) (now table) × (first (tableChecks (racksOf job) (now places)) ≡ 0) × (length (now cards) ≡ slots (racksOf job) * b) × Room (phaseLines 1 (phases (racksOf job) (now places))) 0 (now out) ⌝ }
     ensures { λ r. ⌜ PhasesPut (racksOf job) b (held (now (places .entry)) (now (cards .entry))) (held (now (places .exit)) (now (cards .exit))) (now (out .entry)) (now (out .exit)) r ⌝ }
 {
     let mut queue = [0u16; 4096];
     let mut heads = [0u16; 64];
     let mut tails = [0u16; 64];
-    let mut lows = [0u16; 64];
-    let mut rooms = [0u16; 64];
+    let mut firsts = [0u16; 64];
     let mut ends = [0u16; 64];
+    let mut bits = [0u64; 65];
+    let mut waiting: u64 = 0;
     let mut pairs = [0u16; 8192];
     arrivals::queue_up(
         job,
@@ -111,9 +111,10 @@ pub fn put_phases(
         &mut queue,
         &mut heads,
         &mut tails,
-        &mut lows,
-        &mut rooms,
+        &mut firsts,
         &mut ends,
+        &mut bits,
+        &mut waiting,
     );
     put_rounds(
         out,
@@ -121,13 +122,13 @@ pub fn put_phases(
         b,
         places,
         cards,
-        table,
         &queue,
         &mut heads,
         &tails,
-        &mut lows,
-        &mut rooms,
+        &firsts,
         &ends,
+        &mut bits,
+        &mut waiting,
         &mut pairs,
     )
 }

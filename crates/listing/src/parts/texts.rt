@@ -6,7 +6,6 @@ ghost use Rattle.counting.specs.Checks.{first};
 ghost use Rattle.racks.specs.Racks.{ofCaps, slots};
 ghost use Rattle.racks.specs.Numbers.{tableChecks, cardChecks};
 ghost use Rattle.racks.specs.Job.{racksOf, Sound};
-ghost use Rattle.racks.specs.Legal.{Spared};
 ghost use Rattle.tables.specs.Tables.{Filled};
 ghost use Rattle.moves.specs.Parts.{held};
 ghost use Rattle.copies.specs.Copies.{copyList};
@@ -41,7 +40,7 @@ pub fn put_run(
     cards: &mut [u8],
     table: &[u8; 4096],
 ) -> usize
-    requires { ⌜ Sound job × Spared (racksOf job) × Filled (racksOf job) (now table) × (first (tableChecks (racksOf job) (now places)) ≡ 0) × (length (now cards) ≡ slots (racksOf job) * b) × (b ≤ 256) × Room (runText (racksOf job) b (held (now places) (now cards))) 0 (now out) ⌝ }
+    requires { ⌜ Sound job × Filled (racksOf job) (now table) × (first (tableChecks (racksOf job) (now places)) ≡ 0) × (length (now cards) ≡ slots (racksOf job) * b) × (b ≤ 256) × Room (runText (racksOf job) b (held (now places) (now cards))) 0 (now out) ⌝ }
     ensures { λ r. ⌜ Wrote (runText (racksOf job) b (held (now (places .entry)) (now (cards .entry)))) (now (out .entry)) 0 (now (out .exit)) r ⌝ }
 {
     let made = phasing::put_phases(out, job, b, places, cards, table);

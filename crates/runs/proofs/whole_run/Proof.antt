@@ -1,9 +1,7 @@
-use mathlib.Core.Path.{_≡_, sym, subst, _∙_}
+use mathlib.Core.Path.{_≡_, sym, _∙_}
 use Rattle.counting.specs.Checks.{first}
 use Rattle.racks.specs.Racks.{ofCaps}
 use Rattle.racks.specs.Numbers.{cardChecks}
-use Rattle.racks.specs.Legal.{Spared}
-use Rattle.racks.proofs.LegalTable.{spared-caps}
 use Rattle.tables.proofs.Tables.{Open, of-sound, of-cards, open-cards, open-long, accepted}
 use Rattle.moves.specs.Parts.{held}
 use Rattle.runs.proofs.Ending.{bytes-small, ran-caps, ran-refused, ran-done}
@@ -53,7 +51,6 @@ run-cards-requires c κs =
     let n = c .before .before .before .before .cards-number in
     let o = opened e in (
       o .sound,
-      subst Spared (sym (o .racks)) (spared-caps (s .args .caps .now)),
       o .filled,
       o .legal,
       open-long (s .args .caps .now) (j .of .result) (j .of .ensures) (s .args .places .now) _ (s .args .b) (s .args .cards .now) _ (n .ensures) (e .if1 .left),

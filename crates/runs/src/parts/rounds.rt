@@ -19,14 +19,15 @@ pub fn run_phases(
     queue: &[u16; 4096],
     heads: &mut [u16; 64],
     tails: &[u16; 64],
-    lows: &mut [u16; 64],
-    rooms: &mut [u16; 64],
+    firsts: &[u16; 64],
     ends: &[u16; 64],
+    bits: &mut [u64; 65],
+    waiting: &mut u64,
     pairs: &mut [u16],
     owes: &mut [u16; 4096],
     awaits: &mut [u16; 4096],
 ) -> Tally
-    requires { ⌜ Set job b (rowsOf (now queue) (now heads) (now tails) (now lows) (now rooms) (now ends)) (held (now places) (now cards)) (now table) (now pairs) (now owes) (now awaits) due ⌝ }
+    requires { ⌜ Set job b (rowsOf (now queue) (now heads) (now tails) (now firsts) (now ends) (now bits) (now waiting)) (held (now places) (now cards)) (now table) (now pairs) (now owes) (now awaits) due ⌝ }
     ensures { λ r. ⌜ Gathered (racksOf job) b (held (now (places .entry)) (now (cards .entry))) (held (now (places .exit)) (now (cards .exit))) r (now (owes .exit)) (now (awaits .exit)) ⌝ }
 {
     let mut left = due;
@@ -38,13 +39,13 @@ pub fn run_phases(
             left,
             places,
             cards,
-            table,
             queue,
             heads,
             tails,
-            lows,
-            rooms,
+            firsts,
             ends,
+            bits,
+            waiting,
             pairs,
         );
         let paid = paying::pay_moves(pairs, made, table, owes, awaits, tally);

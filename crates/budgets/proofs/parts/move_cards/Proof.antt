@@ -11,14 +11,12 @@ slice-aggregate-run-moves c = search needs
 
 run-moves-requires : tie.Need-run-moves-requires
 run-moves-requires c κs =
-    let s = c .before .before .before .before .before .before .before .before .before .before .before .before .before .before .before .before .before .before .before in
+    let s = c .before .before .before .before .before .before .before .before .before .before .before .before .before .before .before .before .before .before .before .before .before in
     record {
       sound = s .pre .0;
-      spared = s .pre .1;
-      filled = s .pre .2;
-      legal = s .pre .3;
-      ready = c .before .before .before .before .before .before .before .before .before .queue-up .ensures;
-      cards-long = s .pre .4;
+      legal = s .pre .2;
+      ready = c .before .before .before .before .before .before .before .before .before .before .queue-up .ensures;
+      cards-long = s .pre .3;
       room = omega arith;
     }
 

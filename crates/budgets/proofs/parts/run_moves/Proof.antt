@@ -10,12 +10,12 @@ use Rattle.budgets.proofs.parts.run_moves.Statement.{statement}
 use Rattle.budgets.proofs.parts.run_moves.Tie as tie
 
 abbrev Inv-loop : tie.InvT-loop
-Inv-loop job b k places₀ cards₀ table queue heads₀ tails lows₀ rooms₀ ends pairs₀ left₀ places cards heads lows rooms pairs left =
+Inv-loop job b k places₀ cards₀ queue heads₀ tails firsts ends bits₀ waiting₀ pairs₀ left₀ places cards heads bits waiting pairs left =
     (length places ≡ length places₀) × (length cards ≡ length cards₀) × (length pairs ≡ length pairs₀)
-    × Turn (racksOf job) b k (held places₀ cards₀) (rowsOf queue heads tails lows rooms ends) (held places cards) pairs left
+    × Turn (racksOf job) b k (held places₀ cards₀) (rowsOf queue heads tails firsts ends bits waiting) (held places cards) pairs left
 
 abbrev μ-loop : tie.MeasureT-loop
-μ-loop job b k places₀ cards₀ table queue heads₀ tails lows₀ rooms₀ ends pairs₀ left₀ places cards heads lows rooms pairs left =
+μ-loop job b k places₀ cards₀ queue heads₀ tails firsts ends bits₀ waiting₀ pairs₀ left₀ places cards heads bits waiting pairs left =
     left
 
 loop-holds : tie.Need-loop-holds Inv-loop μ-loop
@@ -24,7 +24,7 @@ loop-holds c = let s = c .before .before .before in (refl, refl, refl, turn-firs
 run-phase-requires : tie.Need-run-phase-requires Inv-loop μ-loop
 run-phase-requires c κs =
     let s = c .before .before .before .before .before .before .before .before .before .before .before in
-    turn-runnable (racksOf (s .args .job)) _ (s .args .table .now) (going-fixed (s .pre)) (s .args .b) (s .args .k) _ _ _ _ _ (c .before .before .before .before .before .before .before .loop .inv .3) (omega arith)
+    turn-runnable (racksOf (s .args .job)) _ (going-fixed (s .pre)) (s .args .b) (s .args .k) _ _ _ _ _ (c .before .before .before .before .before .before .before .loop .inv .3) (omega arith)
 
 sub-result : tie.Need-sub-result Inv-loop μ-loop
 sub-result c = omega (arith, c .before .before .before .before .before .before .before .before .before .before .before .before .before .before .before .loop .inv .3 .within)
@@ -41,7 +41,7 @@ same-length-3 c = search needs
 returns : tie.Need-returns Inv-loop μ-loop
 returns c =
     let s = c .before .before .before .before .before .before .before .before .before .before .before .before .before .before .before .before .before .before .before in
-    turn-none (racksOf (s .args .job)) _ (s .args .table .now) (going-fixed (s .pre)) (s .args .b) (s .args .k) _ _ _ _ _ (c .before .before .before .before .before .before .before .before .before .before .before .before .before .before .before .loop .inv .3) (c .before .before .before .before .before .before .before .before .before .before .before .before .before .before .loop-test .taken) _ _ _ _ _ _ (c .before .before .before .before .before .before .before .run-phase .ensures) (c .if1 .taken)
+    turn-none (racksOf (s .args .job)) _ (going-fixed (s .pre)) (s .args .b) (s .args .k) _ _ _ _ _ (c .before .before .before .before .before .before .before .before .before .before .before .before .before .before .before .loop .inv .3) (c .before .before .before .before .before .before .before .before .before .before .before .before .before .before .loop-test .taken) _ _ _ _ _ _ (c .before .before .before .before .before .before .before .run-phase .ensures) (c .if1 .taken)
 
 sub-left : tie.Need-sub-left Inv-loop μ-loop
 sub-left c = omega (arith, c .before .before .before .before .before .before .before .run-phase .ensures .made-is)
@@ -57,7 +57,7 @@ loop-again c =
       omega (arith, k .1 .1 .1 .0, i .0),
       omega (arith, k .1 .1 .1 .1 .0, i .1),
       omega (arith, k .1 .1 .1 .1 .1 .1 .1 .1 .1 .1 .1 .1 .0, i .2),
-      turn-next (racksOf (s .args .job)) _ (s .args .table .now) (going-fixed (s .pre)) (s .args .b) (s .args .k) _ _ _ _ _ (i .3) (c .before .before .before .before .before .before .before .before .before .before .before .before .before .before .loop-test .taken) _ _ _ _ _ _ (c .before .before .before .before .before .before .before .run-phase .ensures) (c .if1 .left),
+      turn-next (racksOf (s .args .job)) _ (going-fixed (s .pre)) (s .args .b) (s .args .k) _ _ _ _ _ (i .3) (c .before .before .before .before .before .before .before .before .before .before .before .before .before .before .loop-test .taken) _ _ _ _ _ _ (c .before .before .before .before .before .before .before .run-phase .ensures) (c .if1 .left),
     )
 
 same-length-4 : tie.Need-same-length-4 Inv-loop μ-loop

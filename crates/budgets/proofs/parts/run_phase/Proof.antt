@@ -1,12 +1,12 @@
 use native.Mathlib.Omega.{arith}
 use Rattle.moves.specs.Parts.{held}
-use Rattle.budgets.proofs.PhaseRuns.{made-fits, made-slots, made-notable, phase-run}
+use Rattle.budgets.proofs.PhaseRuns.{made-fits, made-slots, made-small, phase-run}
 use borrow.Author.Needs.{needs}
 use Rattle.budgets.proofs.parts.run_phase.Statement.{statement}
 use Rattle.budgets.proofs.parts.run_phase.Tie as tie
 
 plan-phase-requires : tie.Need-plan-phase-requires
-plan-phase-requires c κs = let s = c .before .before .before .before .before .before .before .before in (s .pre .bounded, (s .pre .roomed, s .pre .room))
+plan-phase-requires c κs = let s = c .before .before .before .before .before .before .before in (s .pre .bounded, s .pre .room)
 
 smaller-requires : tie.Need-smaller-requires
 smaller-requires c κs = search needs
@@ -16,19 +16,19 @@ mul-carry c = search needs
 
 carry-requires : tie.Need-carry-requires
 carry-requires c κs =
-    let m = c .before .before .before .smaller in
-    let q = c .before .before .before .before .before .before .plan-phase in
-    let s = c .before .before .before .before .before .before .before .before .before .before .before .before .before .before .before in
+    let m = c .before .before .before .smaller .ensures in
+    let q = c .before .before .before .before .before .before .plan-phase .ensures in
+    let s = c .before .before .before .before .before .before .before .before .before .before .before .before .before .before in
     let h = held (s .args .places .now) (s .args .cards .now) in
-    (s .pre .sized, ((omega arith, made-fits (s .args .n) (s .args .b) (s .args .left) _ h (s .args .table .now) (s .args .pairs .now) _ _ _ _ _ (s .pre) (q .ensures) (m .ensures)), made-slots (s .args .n) (s .args .b) (s .args .left) _ h (s .args .table .now) (s .args .pairs .now) _ _ _ _ _ (s .pre) (q .ensures) (m .ensures)))
+    (s .pre .sized, ((omega arith, made-fits (s .args .n) (s .args .b) (s .args .left) _ h (s .args .pairs .now) _ _ _ _ _ (s .pre) q m), made-slots (s .args .n) (s .args .b) (s .args .left) _ h (s .args .pairs .now) _ _ _ _ _ (s .pre) q m))
 
 note-moves-requires : tie.Need-note-moves-requires
 note-moves-requires c κs =
-    let m = c .before .before .before .before .before .before .before .before .before .before .before .smaller in
-    let q = c .before .before .before .before .before .before .before .before .before .before .before .before .before .before .plan-phase in
-    let s = c .before .before .before .before .before .before .before .before .before .before .before .before .before .before .before .before .before .before .before .before .before .before .before in
+    let m = c .before .before .before .before .before .before .before .before .before .before .smaller .ensures in
+    let q = c .before .before .before .before .before .before .before .before .before .before .before .before .before .plan-phase .ensures in
+    let s = c .before .before .before .before .before .before .before .before .before .before .before .before .before .before .before .before .before .before .before .before .before in
     let h = held (s .args .places .now) (s .args .cards .now) in
-    (made-fits (s .args .n) (s .args .b) (s .args .left) _ h (s .args .table .now) (s .args .pairs .now) _ _ _ _ _ (s .pre) (q .ensures) (m .ensures), q .ensures .lows-long, s .pre .bounded .rooms-long, made-notable (s .args .n) (s .args .b) (s .args .left) _ h (s .args .table .now) (s .args .pairs .now) _ _ _ _ _ (s .pre) (q .ensures) (m .ensures))
+    (made-fits (s .args .n) (s .args .b) (s .args .left) _ h (s .args .pairs .now) _ _ _ _ _ (s .pre) q m, s .pre .bounded .topped .long, made-small (s .args .n) (s .args .b) (s .args .left) _ h (s .args .pairs .now) _ _ _ _ _ (s .pre) q m)
 
 same-length : tie.Need-same-length
 same-length c = search needs
@@ -41,11 +41,11 @@ same-length-3 c = search needs
 
 returns : tie.Need-returns
 returns c =
-    let m = c .before .before .before .before .before .before .before .before .before .before .before .before .smaller in
-    let q = c .before .before .before .before .before .before .before .before .before .before .before .before .before .before .before .plan-phase in
-    let s = c .before .before .before .before .before .before .before .before .before .before .before .before .before .before .before .before .before .before .before .before .before .before .before .before in
+    let m = c .before .before .before .before .before .before .before .before .before .before .before .smaller .ensures in
+    let q = c .before .before .before .before .before .before .before .before .before .before .before .before .before .before .plan-phase .ensures in
+    let s = c .before .before .before .before .before .before .before .before .before .before .before .before .before .before .before .before .before .before .before .before .before .before in
     let h = held (s .args .places .now) (s .args .cards .now) in
-    phase-run (s .args .n) (s .args .b) (s .args .left) _ h (s .args .table .now) (s .args .pairs .now) _ _ _ _ _ (s .pre) (q .ensures) (m .ensures) _ _ _ (c .before .before .before .before .before .before .before .before .carry .ensures) (c .note-moves .ensures)
+    phase-run (s .args .n) (s .args .b) (s .args .left) _ h (s .args .pairs .now) _ _ _ _ _ (s .pre) q m _ _ (c .before .before .before .before .before .before .before .carry .ensures) (c .note-moves .ensures)
 
 pub run-phase-spec : {M : Type 1} → statement M
 run-phase-spec =

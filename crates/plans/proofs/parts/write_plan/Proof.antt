@@ -1,7 +1,6 @@
 use Rattle.racks.specs.Job.{racksOf}
 use Rattle.racks.proofs.Jobs.{sound-racks}
-use Rattle.racks.proofs.Legal.{legal-long}
-use Rattle.queues.proofs.Ready.{ready-bounded, ready-roomed, ready-count, ready-written}
+use Rattle.queues.proofs.Ready.{ready-bounded, ready-count, ready-written}
 use borrow.Author.Needs.{needs}
 use Rattle.plans.proofs.parts.write_plan.Statement.{statement}
 use Rattle.plans.proofs.parts.write_plan.Tie as tie
@@ -11,21 +10,19 @@ queue-up-requires c κs = search needs
 
 plan-phase-requires : tie.Need-plan-phase-requires
 plan-phase-requires c κs =
-    let q = c .before .before .before .before .before .before .before in
-    let s = q .before .before .before .before .before .before .before .before .before in
+    let s = c .before .before .before .before .before .before .before .before .before .before .before .before .before .before .before .before .before .before in
     let racks = racksOf (s .args .job) in
-    let r = q .queue-up .ensures in
+    let r = c .before .before .before .before .before .before .before .before .queue-up .ensures in
     let n = sound-racks (s .args .job) (s .pre .0) in
-    (ready-bounded racks (s .args .places .now) _ r _ n (legal-long racks (s .args .places .now) (s .pre .2)), (ready-roomed racks (s .args .places .now) _ r _ n, rw (ready-count racks (s .args .places .now) _ r _ n) (s .pre .3)))
+    (ready-bounded racks (s .args .places .now) _ r _ n, rw (ready-count racks (s .args .places .now) _ r _ n) (s .pre .3))
 
 same-length : tie.Need-same-length
 same-length c = search needs
 
 returns : tie.Need-returns
 returns c =
-    let q = c .before .before .before .before .before .before .before .before .before .before in
-    let s = q .before .before .before .before .before .before .before .before .before in
-    ready-written (racksOf (s .args .job)) (s .args .places .now) _ (q .queue-up .ensures) _ (sound-racks (s .args .job) (s .pre .0)) (c .before .before .plan-phase .ensures)
+    let s = c .before .before .before .before .before .before .before .before .before .before .before .before .before .before .before .before .before .before .before .before .before in
+    ready-written (racksOf (s .args .job)) (s .args .places .now) _ (c .before .before .before .before .before .before .before .before .before .before .before .queue-up .ensures) _ (sound-racks (s .args .job) (s .pre .0)) (c .before .before .plan-phase .ensures)
 
 pub write-plan-spec : {M : Type 1} → statement M
 write-plan-spec = tie.close (tie.spec queue-up-requires plan-phase-requires same-length returns)

@@ -11,28 +11,27 @@ queue-up-requires : tie.Need-queue-up-requires
 queue-up-requires c κs = search needs
 
 count-awaited-requires : tie.Need-count-awaited-requires
-count-awaited-requires c κs = let s = c .before .before .before .before .before .before .before .before .before .before .before .before .before .before .before .before in (s .pre .0, s .pre .3, c .before .before .before .before .before .before .before .before .before .before .count-owed .ensures .owed-are)
+count-awaited-requires c κs = let s = c .before .before .before .before .before .before .before .before .before .before .before .before .before .before .before .before .before in (s .pre .0, s .pre .2, c .before .before .before .before .before .before .before .before .before .before .before .count-owed .ensures .owed-are)
 
 slice-aggregate-run-phases : tie.Need-slice-aggregate-run-phases
 slice-aggregate-run-phases c = search needs
 
 run-phases-requires : tie.Need-run-phases-requires
 run-phases-requires c κs =
-    let s = c .before .before .before .before .before .before .before .before .before .before .before .before .before .before .before .before .before .before .before .before .before .before .before .before .before .before .before .before in
+    let s = c .before .before .before .before .before .before .before .before .before .before .before .before .before .before .before .before .before .before .before .before .before .before .before .before .before .before .before .before .before .before in
     record {
       going =
           record {
             sound = s .pre .0;
-            spared = s .pre .1;
-            filled = s .pre .2;
-            legal = s .pre .3;
-            ready = c .before .before .before .before .before .before .before .before .before .before .before .before .before .before .queue-up .ensures;
-            cards-long = s .pre .4;
+            legal = s .pre .2;
+            ready = c .before .before .before .before .before .before .before .before .before .before .before .before .before .before .before .queue-up .ensures;
+            cards-long = s .pre .3;
             room = omega arith;
           };
-      owed = c .before .before .before .before .before .before .before .before .before .before .before .before .before .before .before .before .before .before .before .before .before .before .count-owed .ensures .owed-are;
+      filled = s .pre .1;
+      owed = c .before .before .before .before .before .before .before .before .before .before .before .before .before .before .before .before .before .before .before .before .before .before .before .before .count-owed .ensures .owed-are;
       agree = refl;
-      due-is = c .before .before .before .before .before .before .before .before .before .before .before .count-awaited .ensures;
+      due-is = c .before .before .before .before .before .before .before .before .before .before .before .before .count-awaited .ensures;
     }
 
 same-length : tie.Need-same-length

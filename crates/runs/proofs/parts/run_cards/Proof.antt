@@ -14,8 +14,8 @@ settle-requires c κs =
     let s = c .before .before .before .before .before .before .before .before .before .before .before in
     let h = held (s .args .places .now) (s .args .cards .now) in
     let p = c .before .before .before .before .before .before .make-phases .ensures in
-    let l = legal (racksOf (s .args .job)) (s .args .places .now) (s .pre .3) in
-    (ends-chained (racksOf (s .args .job)) (s .args .b) h l (s .pre .1) (s .pre .0 .small) (s .pre .4) (held _ _) _ p, s .pre .5, ends-long (racksOf (s .args .job)) (s .args .b) h l (s .pre .1) (s .pre .0 .small) (s .pre .4) (held _ _) _ p)
+    let l = legal (racksOf (s .args .job)) (s .args .places .now) (s .pre .2) in
+    (ends-chained (racksOf (s .args .job)) (s .args .b) h l (s .pre .0 .spared) (s .pre .0 .small) (s .pre .3) (held _ _) _ p, s .pre .4, ends-long (racksOf (s .args .job)) (s .args .b) h l (s .pre .0 .spared) (s .pre .0 .small) (s .pre .3) (held _ _) _ p)
 
 same-length : tie.Need-same-length
 same-length c = search needs
@@ -27,8 +27,8 @@ returns : tie.Need-returns
 returns c =
     let s = c .before .before .before .before .before .before .before .before .before .before .before .before .before .before .before .before in
     let h = held (s .args .places .now) (s .args .cards .now) in
-    let l = legal (racksOf (s .args .job)) (s .args .places .now) (s .pre .3) in
-    ends-ran (racksOf (s .args .job)) (s .args .b) h l (s .pre .1) (s .pre .0 .small) (s .pre .4) (held _ _) _ (c .before .before .before .before .before .before .before .before .before .before .before .make-phases .ensures) _ _ _ (c .before .before .before .before .settle .ensures)
+    let l = legal (racksOf (s .args .job)) (s .args .places .now) (s .pre .2) in
+    ends-ran (racksOf (s .args .job)) (s .args .b) h l (s .pre .0 .spared) (s .pre .0 .small) (s .pre .3) (held _ _) _ (c .before .before .before .before .before .before .before .before .before .before .before .make-phases .ensures) _ _ _ (c .before .before .before .before .settle .ensures)
 
 pub run-cards-spec : {M : Type 1} → statement M
 run-cards-spec =

@@ -11,17 +11,15 @@ slice-aggregate-put-rounds c = search needs
 
 put-rounds-requires : tie.Need-put-rounds-requires
 put-rounds-requires c κs =
-    let s = c .before .before .before .before .before .before .before .before .before .before .before .before .before .before .before .before .before .before .before .before .before in (
+    let s = c .before .before .before .before .before .before .before .before .before .before .before .before .before .before .before .before .before .before .before .before .before .before .before in (
       record {
         sound = s .pre .0;
-        spared = s .pre .1;
-        filled = s .pre .2;
-        legal = s .pre .3;
-        ready = c .before .before .before .before .before .before .before .before .before .before .queue-up .ensures;
-        cards-long = s .pre .4;
+        legal = s .pre .2;
+        ready = c .before .before .before .before .before .before .before .before .before .before .before .queue-up .ensures;
+        cards-long = s .pre .3;
         room = omega arith;
       },
-      s .pre .5,
+      s .pre .4,
     )
 
 same-length : tie.Need-same-length

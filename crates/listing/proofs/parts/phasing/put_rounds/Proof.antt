@@ -12,12 +12,12 @@ use Rattle.listing.proofs.parts.phasing.put_rounds.Statement.{statement
 use Rattle.listing.proofs.parts.phasing.put_rounds.Tie as tie
 
 abbrev Inv-loop : tie.InvT-loop
-Inv-loop out₀ job b places₀ cards₀ table queue heads₀ tails lows₀ rooms₀ ends pairs₀ left₀ k₀ next₀ out places cards heads lows rooms pairs left k next =
+Inv-loop out₀ job b places₀ cards₀ queue heads₀ tails firsts ends bits₀ waiting₀ pairs₀ left₀ k₀ next₀ out places cards heads bits waiting pairs left k next =
     (length out ≡ length out₀) × (length places ≡ length places₀) × (length cards ≡ length cards₀) × (length pairs ≡ length pairs₀)
-    × Lined (racksOf job) b (job .slots) (held places₀ cards₀) (rowsOf queue heads tails lows rooms ends) (held places cards) pairs left out₀ out k next
+    × Lined (racksOf job) b (job .slots) (held places₀ cards₀) (rowsOf queue heads tails firsts ends bits waiting) (held places cards) pairs left out₀ out k next
 
 abbrev μ-loop : tie.MeasureT-loop
-μ-loop out₀ job b places₀ cards₀ table queue heads₀ tails lows₀ rooms₀ ends pairs₀ left₀ k₀ next₀ out places cards heads lows rooms pairs left k next =
+μ-loop out₀ job b places₀ cards₀ queue heads₀ tails firsts ends bits₀ waiting₀ pairs₀ left₀ k₀ next₀ out places cards heads bits waiting pairs left k next =
     left
 
 loop-holds : tie.Need-loop-holds Inv-loop μ-loop

@@ -3,7 +3,7 @@ use native.Mathlib.Omega.{arith}
 use lib.ListN.{length}
 use borrow.Author.Needs.{needs}
 use Rattle.listing.proofs.Writing.{wrote-front}
-use Rattle.listing.proofs.Files.{job-accepted, job-racks, job-spared, job-bytes}
+use Rattle.listing.proofs.Files.{job-accepted, job-racks, job-bytes}
 use Rattle.listing.proofs.parts.texts.put_job.Statement.{statement}
 use Rattle.listing.proofs.parts.texts.put_job.Tie as tie
 
@@ -32,7 +32,6 @@ put-run-requires c κs =
     let e = job-racks (s .args .caps .now) _ (c .before .before .before .before .before .before .before .of .ensures) (s .args .b) (s .args .places .now) (s .args .bytes .now) (s .pre .0) in
     let f = wrote-front (c .before .before .before .before .before .before .before .before .before .put-text .ensures) refl (omega (arith, s .pre .1)) in (
       a .sound,
-      job-spared (s .args .caps .now) _ (c .before .before .before .before .before .before .before .of .ensures) (s .args .b) (s .args .places .now) (s .args .bytes .now) (s .pre .0),
       c .before .before .before .before .fill-tables .ensures .filled,
       a .table,
       ap length f ∙ a .cards-long,

@@ -7,27 +7,27 @@ use Rattle.listing.proofs.parts.texts.put_run.Tie as tie
 put-phases-requires : tie.Need-put-phases-requires
 put-phases-requires c κs =
     let s = c .before .before .before .before .before .before in
-    let r = runs-first (s .args .job) (s .args .b) (held (s .args .places .now) (s .args .cards .now)) (s .args .out .now) (s .pre .0) (s .pre .1) (s .pre .3) (s .pre .4) (s .pre .6) in
-    (s .pre .0, s .pre .1, s .pre .2, s .pre .3, s .pre .4, phases-room r)
+    let r = runs-first (s .args .job) (s .args .b) (held (s .args .places .now) (s .args .cards .now)) (s .args .out .now) (s .pre .0) (s .pre .2) (s .pre .3) (s .pre .5) in
+    (s .pre .0, s .pre .1, s .pre .2, s .pre .3, phases-room r)
 
 put-copy-list-requires : tie.Need-put-copy-list-requires
 put-copy-list-requires c κs =
     let s = c .before .before .before .before .before .before .before .before .before .before .before .before .before .before .before in
-    let r = runs-first (s .args .job) (s .args .b) (held (s .args .places .now) (s .args .cards .now)) (s .args .out .now) (s .pre .0) (s .pre .1) (s .pre .3) (s .pre .4) (s .pre .6) in
+    let r = runs-first (s .args .job) (s .args .b) (held (s .args .places .now) (s .args .cards .now)) (s .args .out .now) (s .pre .0) (s .pre .2) (s .pre .3) (s .pre .5) in
     let p = c .before .before .before .before .before .before .before .before .put-phases .ensures in
     (put-chained r p, copies-room r p)
 
 settle-requires : tie.Need-settle-requires
 settle-requires c κs =
     let s = c .before .before .before .before .before .before .before .before .before .before .before .before .before .before .before .before .before .before .before .before in
-    let r = runs-first (s .args .job) (s .args .b) (held (s .args .places .now) (s .args .cards .now)) (s .args .out .now) (s .pre .0) (s .pre .1) (s .pre .3) (s .pre .4) (s .pre .6) in
+    let r = runs-first (s .args .job) (s .args .b) (held (s .args .places .now) (s .args .cards .now)) (s .args .out .now) (s .pre .0) (s .pre .2) (s .pre .3) (s .pre .5) in
     let p = c .before .before .before .before .before .before .before .before .before .before .before .before .before .put-phases .ensures in
-    (put-chained r p, s .pre .5, put-long r p)
+    (put-chained r p, s .pre .4, put-long r p)
 
 put-cards-requires : tie.Need-put-cards-requires
 put-cards-requires c κs =
     let s = c .before .before .before .before .before .before .before .before .before .before .before .before .before .before .before .before .before .before .before .before .before .before .before .before .before .before .before in
-    let r = runs-first (s .args .job) (s .args .b) (held (s .args .places .now) (s .args .cards .now)) (s .args .out .now) (s .pre .0) (s .pre .1) (s .pre .3) (s .pre .4) (s .pre .6) in
+    let r = runs-first (s .args .job) (s .args .b) (held (s .args .places .now) (s .args .cards .now)) (s .args .out .now) (s .pre .0) (s .pre .2) (s .pre .3) (s .pre .5) in
     let p = c .before .before .before .before .before .before .before .before .before .before .before .before .before .before .before .before .before .before .before .before .put-phases .ensures in
     let w = c .before .before .before .before .before .before .before .before .before .before .before .put-copy-list .ensures in
     let e = c .before .before .before .before .before .before .settle .ensures in
@@ -36,7 +36,7 @@ put-cards-requires c κs =
 put-end-requires : tie.Need-put-end-requires
 put-end-requires c κs =
     let s = c .before .before .before .before .before .before .before .before .before .before .before .before .before .before .before .before .before .before .before .before .before .before .before .before .before .before .before .before .before .before .before in
-    let r = runs-first (s .args .job) (s .args .b) (held (s .args .places .now) (s .args .cards .now)) (s .args .out .now) (s .pre .0) (s .pre .1) (s .pre .3) (s .pre .4) (s .pre .6) in
+    let r = runs-first (s .args .job) (s .args .b) (held (s .args .places .now) (s .args .cards .now)) (s .args .out .now) (s .pre .0) (s .pre .2) (s .pre .3) (s .pre .5) in
     end-room r (c .before .before .before .before .before .before .before .before .before .before .before .before .before .before .before .before .before .before .before .before .before .before .before .before .put-phases .ensures) (c .before .before .before .before .before .before .before .before .before .before .before .before .before .before .before .put-copy-list .ensures) (c .before .before .before .before .before .before .before .before .before .before .settle .ensures) (c .before .before .before .put-cards .ensures)
 
 same-length : tie.Need-same-length
@@ -51,7 +51,7 @@ same-length-3 c = search needs
 returns : tie.Need-returns
 returns c =
     let s = c .before .before .before .before .before .before .before .before .before .before .before .before .before .before .before .before .before .before .before .before .before .before .before .before .before .before .before .before .before .before .before .before .before .before in
-    let r = runs-first (s .args .job) (s .args .b) (held (s .args .places .now) (s .args .cards .now)) (s .args .out .now) (s .pre .0) (s .pre .1) (s .pre .3) (s .pre .4) (s .pre .6) in
+    let r = runs-first (s .args .job) (s .args .b) (held (s .args .places .now) (s .args .cards .now)) (s .args .out .now) (s .pre .0) (s .pre .2) (s .pre .3) (s .pre .5) in
     run-wrote r (c .before .before .before .before .before .before .before .before .before .before .before .before .before .before .before .before .before .before .before .before .before .before .before .before .before .before .before .put-phases .ensures) (c .before .before .before .before .before .before .before .before .before .before .before .before .before .before .before .before .before .before .put-copy-list .ensures) (c .before .before .before .before .before .before .before .before .before .before .before .before .before .settle .ensures) (c .before .before .before .before .before .before .put-cards .ensures) (c .before .before .put-end .ensures)
 
 pub put-run-spec : {M : Type 1} → statement M

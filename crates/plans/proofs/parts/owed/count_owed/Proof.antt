@@ -23,7 +23,7 @@ count-slot-requires c κs =
     let s = l .before .before .before .before in
     let r = racksOf (s .args .job) in
     let h : l .loop .g < slots r = omega (arith, sound-slots _ (s .pre .0)) in
-    countable r (s .args .places .now) (legal r (s .args .places .now) (s .pre .2)) (sound-few _ (s .pre .0)) (s .pre .0 .small) (s .pre .0 .spared) (s .args .table .now) (s .pre .1) (l .loop .g) h _ _ (l .loop .inv .1)
+    countable r (s .args .places .now) (legal r (s .args .places .now) (s .pre .2)) (sound-few _ (s .pre .0)) (s .pre .0 .small) (s .args .table .now) (s .pre .1) (l .loop .g) h _ _ (l .loop .inv .1)
 
 add-g : tie.Need-add-g Inv-loop μ-loop
 add-g c = omega arith
@@ -37,7 +37,7 @@ loop-again c =
     let s = l .before .before .before .before in
     let r = racksOf (s .args .job) in
     let h : l .loop .g < slots r = omega (arith, sound-slots _ (s .pre .0)) in
-    (omega arith, counted-more r (s .args .places .now) (legal r (s .args .places .now) (s .pre .2)) (sound-few _ (s .pre .0)) (s .pre .0 .small) (s .pre .0 .spared) (s .args .table .now) (s .pre .1) (l .loop .g) h _ _ (l .loop .inv .1) _ _ (c .count-slot .ensures))
+    (omega arith, counted-more r (s .args .places .now) (legal r (s .args .places .now) (s .pre .2)) (sound-few _ (s .pre .0)) (s .pre .0 .small) (s .args .table .now) (s .pre .1) (l .loop .g) h _ _ (l .loop .inv .1) _ _ (c .count-slot .ensures))
 
 returns : tie.Need-returns Inv-loop μ-loop
 returns c =

@@ -1,36 +1,37 @@
 -- `queues::parts::planning::plan_rack` meets its contract. Assumes nothing.
 use native.Mathlib.Omega.{arith}
-use Prim.Native.Nat.{_+_, _-_, _≤_, _<_}
+use Prim.Native.Nat.{_+_, _-_, _≤_}
 use lib.ListN.{length, length-set}
-use Rattle.racks.specs.Table.{free}
-use Rattle.queues.proofs.QueueSlot.{bit-le}
-use Rattle.queues.proofs.Pairing.{Left, left-all, left-none, left-slot, left-more}
+use Rattle.queues.proofs.Pairing.{Left, left-all, left-none, left-full, left-room, left-more}
 use Rattle.queues.proofs.parts.planning.plan_rack.Statement.{statement}
 use Rattle.queues.proofs.parts.planning.plan_rack.Tie as tie
 
 abbrev Inv-loop : tie.InvT-loop
-Inv-loop places queue head tail low pairs₀ at h₀ t₀ k₀ pairs h t k = Left places queue head tail low pairs₀ at pairs h t k
+Inv-loop queue head tail bits low high pairs₀ at h₀ t₀ k₀ pairs h t k = Left bits queue head tail low high pairs₀ at pairs h t k
 
 abbrev μ-loop : tie.MeasureT-loop
-μ-loop places queue head tail low pairs₀ at h₀ t₀ k₀ pairs h t k = length places - t
+μ-loop queue head tail bits low high pairs₀ at h₀ t₀ k₀ pairs h t k = tail - h
 
 loop-holds : tie.Need-loop-holds Inv-loop μ-loop
-loop-holds c = let s = c .before .before in left-all (s .pre .0 .0) (s .pre .0 .3) (s .pre .1 .0)
+loop-holds c = let s = c .before in left-all (s .pre .0 .0) (s .pre .0 .3)
+
+next-marked-requires : tie.Need-next-marked-requires Inv-loop μ-loop
+next-marked-requires c κs = let s = c .before .before .before in (omega (arith, c .before .loop .inv .t-in), s .pre .0 .5)
 
 -- one pair more fits the list
-room : (c : tie.In-loop Inv-loop μ-loop) → c .before .loop .k + 2 ≤ length (c .before .loop .pairs)
+room : (c : tie.Else1 Inv-loop μ-loop) → c .before .before .before .loop .k + 2 ≤ length (c .before .before .before .loop .pairs)
 room c =
-    let s = c .before .before .before .before in
-    omega (arith, c .before .loop .inv .behind, c .before .loop .inv .long, c .before .loop .inv .up, s .pre .1 .1)
+    let s = c .before .before .before .before .before in
+    left-room (c .before .before .before .loop .inv) (c .before .next-marked .ensures) (omega arith) (omega arith) (omega arith) (omega arith) (s .pre .1)
 
--- a slot is left
-slot : (c : tie.In-loop Inv-loop μ-loop) → c .before .loop .t < length (c .before .before .before .before .args .places .now)
-slot c = left-slot (c .before .loop .inv) (omega arith) (omega arith)
+sub-result : tie.Need-sub-result Inv-loop μ-loop
+sub-result c = c .before .before .before .loop .inv .up
 
--- 0 or 1
-few : (c : tie.After-one-if Inv-loop μ-loop) → c .one-if .result ≤ 1
-unfolding free
-few c = bit-le (c .one-if .result) (free (c .before .before .before .before .before .before .before .args .places .now) (c .before .before .before .before .loop .t)) (c .one-if .ensures)
+same-length : tie.Need-same-length Inv-loop μ-loop
+same-length c = c .before .before .before .loop .inv .long
+
+returns : tie.Need-returns Inv-loop μ-loop
+returns c = left-full (c .before .before .before .loop .inv) (c .before .next-marked .ensures) (omega arith)
 
 mul-pairs : tie.Need-mul-pairs Inv-loop μ-loop
 mul-pairs c = omega arith
@@ -45,7 +46,7 @@ slice-write-pairs : tie.Need-slice-write-pairs Inv-loop μ-loop
 slice-write-pairs c = omega (arith, room (c .before))
 
 cast-pairs : tie.Need-cast-pairs Inv-loop μ-loop
-cast-pairs c = omega (arith, slot (c .before))
+cast-pairs c = omega arith
 
 add-pairs : tie.Need-add-pairs Inv-loop μ-loop
 add-pairs c = omega (arith, room (c .before))
@@ -56,47 +57,29 @@ mul-pairs-3 c = omega (arith, room (c .before))
 slice-write-pairs-2 : tie.Need-slice-write-pairs-2 Inv-loop μ-loop
 slice-write-pairs-2 c = simp length-set (omega (arith, room (c .before)))
 
-mul-one-if : tie.Need-mul-one-if Inv-loop μ-loop
-mul-one-if c = omega (arith, slot (c .before))
-
-shared-slice-read-one-if : tie.Need-shared-slice-read-one-if Inv-loop μ-loop
-shared-slice-read-one-if c = slot (c .before .before)
-
-one-if-requires : tie.Need-one-if-requires Inv-loop μ-loop
-one-if-requires c κs = tt
-
-cast-fills : tie.Need-cast-fills Inv-loop μ-loop
-cast-fills c = omega (arith, few c)
-
-mul-k : tie.Need-mul-k Inv-loop μ-loop
-mul-k c = omega (arith, few c)
-
-add-k : tie.Need-add-k Inv-loop μ-loop
-add-k c = omega (arith, few c, room (c .before .before .before))
-
 add-h : tie.Need-add-h Inv-loop μ-loop
-add-h c = omega (arith, few c)
+add-h c = omega arith
 
 add-t : tie.Need-add-t Inv-loop μ-loop
-add-t c = omega (arith, slot (c .before .before .before))
+add-t c = omega arith
+
+add-k : tie.Need-add-k Inv-loop μ-loop
+add-k c = omega (arith, room (c .before))
 
 loop-less : tie.Need-loop-less Inv-loop μ-loop
-loop-less c = omega (arith, slot (c .before .before .before))
+loop-less c = omega arith
 
 loop-again : tie.Need-loop-again Inv-loop μ-loop
-unfolding free
-loop-again c =
-    let l = c .before .before .before .before .loop in
-    left-more (l .inv) (omega arith) (omega arith) _ (c .one-if .ensures)
+loop-again c = left-more (c .before .before .before .before .loop .inv) (c .before .before .next-marked .ensures) (omega arith) (omega arith) (omega arith) (omega arith)
 
-sub-result : tie.Need-sub-result Inv-loop μ-loop
-sub-result c = omega arith
+sub-result-2 : tie.Need-sub-result-2 Inv-loop μ-loop
+sub-result-2 c = omega arith
 
-same-length : tie.Need-same-length Inv-loop μ-loop
-same-length c = c .before .loop .inv .long
+same-length-2 : tie.Need-same-length-2 Inv-loop μ-loop
+same-length-2 c = c .before .loop .inv .long
 
-returns : tie.Need-returns Inv-loop μ-loop
-returns c = let s = c .before .before .before .before in left-none (c .before .loop .inv) (s .pre .1 .0) (omega arith)
+returns-2 : tie.Need-returns-2 Inv-loop μ-loop
+returns-2 c = left-none (c .before .loop .inv) (omega arith)
 
 pub plan-rack-spec : {M : Type 1} → statement M
 plan-rack-spec =
@@ -105,6 +88,10 @@ plan-rack-spec =
     Inv-loop
     μ-loop
     loop-holds
+    next-marked-requires
+    sub-result
+    same-length
+    returns
     mul-pairs
     element-copy-out-pairs
     mul-pairs-2
@@ -113,16 +100,11 @@ plan-rack-spec =
     add-pairs
     mul-pairs-3
     slice-write-pairs-2
-    mul-one-if
-    shared-slice-read-one-if
-    one-if-requires
-    cast-fills
-    mul-k
-    add-k
     add-h
     add-t
+    add-k
     loop-less
     loop-again
-    sub-result
-    same-length
-    returns)
+    sub-result-2
+    same-length-2
+    returns-2)

@@ -5,18 +5,17 @@ use lib.ListN.{length}
 use Rattle.racks.specs.Job.{racksOf}
 use Rattle.queues.specs.Queues.{rowsOf}
 use Rattle.moves.specs.Parts.{held}
-use Rattle.budgets.proofs.Turns.{going-fixed}
-use Rattle.runs.proofs.Rounds.{Round, round-first, round-runnable, round-payable, round-next, round-done, made-some, made-left, pairs-long, phases-few, due-few}
+use Rattle.runs.proofs.Rounds.{Round, set-steady, round-first, round-runnable, round-payable, round-next, round-done, made-some, made-left, pairs-long, phases-few, due-few}
 use Rattle.runs.proofs.parts.rounds.run_phases.Statement.{statement}
 use Rattle.runs.proofs.parts.rounds.run_phases.Tie as tie
 
 abbrev Inv-loop : tie.InvT-loop
-Inv-loop job b due places₀ cards₀ table queue heads₀ tails lows₀ rooms₀ ends pairs₀ owes₀ awaits₀ left₀ tally₀ places cards heads lows rooms pairs owes awaits left tally =
+Inv-loop job b due places₀ cards₀ table queue heads₀ tails firsts ends bits₀ waiting₀ pairs₀ owes₀ awaits₀ left₀ tally₀ places cards heads bits waiting pairs owes awaits left tally =
     (length places ≡ length places₀) × (length cards ≡ length cards₀) × (length pairs ≡ length pairs₀)
-    × Round (racksOf job) b due (held places₀ cards₀) (rowsOf queue heads tails lows rooms ends) (held places cards) pairs left tally owes awaits
+    × Round (racksOf job) b due (held places₀ cards₀) (rowsOf queue heads tails firsts ends bits waiting) (held places cards) pairs left tally owes awaits
 
 abbrev μ-loop : tie.MeasureT-loop
-μ-loop job b due places₀ cards₀ table queue heads₀ tails lows₀ rooms₀ ends pairs₀ owes₀ awaits₀ left₀ tally₀ places cards heads lows rooms pairs owes awaits left tally =
+μ-loop job b due places₀ cards₀ table queue heads₀ tails firsts ends bits₀ waiting₀ pairs₀ owes₀ awaits₀ left₀ tally₀ places cards heads bits waiting pairs owes awaits left tally =
     left
 
 none-requires : tie.Need-none-requires Inv-loop μ-loop
@@ -31,15 +30,15 @@ run-phase-requires : tie.Need-run-phase-requires Inv-loop μ-loop
 run-phase-requires c κs =
     let l = c .before .before .before .before .before .before .before .loop in
     let s = c .before .before .before .before .before .before .before .before .before .before .before .before in
-    round-runnable (racksOf (s .args .job)) _ (s .args .table .now) (going-fixed (s .pre .going)) (s .args .b) (s .args .due) _ _ _ _ _ _ _ _ (l .inv .3) (omega arith)
+    round-runnable (racksOf (s .args .job)) _ (s .args .table .now) (set-steady (s .pre)) (s .args .b) (s .args .due) _ _ _ _ _ _ _ _ (l .inv .3) (omega arith)
 
 pay-moves-requires : tie.Need-pay-moves-requires Inv-loop μ-loop
 pay-moves-requires c κs =
     let l = c .before .before .before .before .before .before .before .before .before .before .before .before .before .before .before .before .before .loop in
     let s = c .before .before .before .before .before .before .before .before .before .before .before .before .before .before .before .before .before .before .before .before .before .before in
     let p = c .before .before .before .before .before .before .before .before .before .run-phase .ensures in
-    let o = round-payable (racksOf (s .args .job)) _ (s .args .table .now) (going-fixed (s .pre .going)) (s .args .b) (s .args .due) _ _ _ _ _ _ _ _ (l .inv .3) (c .before .before .before .before .before .before .before .before .before .before .before .before .before .before .before .before .loop-test .taken) _ _ _ _ _ _ p in
-    ((pairs-long (racksOf (s .args .job)) _ (s .args .table .now) (going-fixed (s .pre .going)) (s .args .b) (s .args .due) _ _ _ _ _ _ _ _ (l .inv .3) (c .before .before .before .before .before .before .before .before .before .before .before .before .before .before .before .before .loop-test .taken) _ _ _ _ _ _ p, l .inv .3 .owed .long, ap length (l .inv .3 .agree) ∙ l .inv .3 .owed .long, omega (arith, l .inv .3 .moves-are, made-left (racksOf (s .args .job)) _ (s .args .table .now) (going-fixed (s .pre .going)) (s .args .b) (s .args .due) _ _ _ _ _ _ _ _ (l .inv .3) (c .before .before .before .before .before .before .before .before .before .before .before .before .before .before .before .before .loop-test .taken) _ _ _ _ _ _ p, due-few (s .pre))), o)
+    let o = round-payable (racksOf (s .args .job)) _ (s .args .table .now) (set-steady (s .pre)) (s .args .b) (s .args .due) _ _ _ _ _ _ _ _ (l .inv .3) (c .before .before .before .before .before .before .before .before .before .before .before .before .before .before .before .before .loop-test .taken) _ _ _ _ _ _ p in
+    ((pairs-long (racksOf (s .args .job)) _ (s .args .table .now) (set-steady (s .pre)) (s .args .b) (s .args .due) _ _ _ _ _ _ _ _ (l .inv .3) (c .before .before .before .before .before .before .before .before .before .before .before .before .before .before .before .before .loop-test .taken) _ _ _ _ _ _ p, l .inv .3 .owed .long, ap length (l .inv .3 .agree) ∙ l .inv .3 .owed .long, omega (arith, l .inv .3 .moves-are, made-left (racksOf (s .args .job)) _ (s .args .table .now) (set-steady (s .pre)) (s .args .b) (s .args .due) _ _ _ _ _ _ _ _ (l .inv .3) (c .before .before .before .before .before .before .before .before .before .before .before .before .before .before .before .before .loop-test .taken) _ _ _ _ _ _ p, due-few (s .pre))), o)
 
 add-phase-requires : tie.Need-add-phase-requires Inv-loop μ-loop
 add-phase-requires c κs =
@@ -52,14 +51,14 @@ sub-left c =
     let l = c .before .before .before .before .before .before .before .before .before .before .before .before .before .before .before .before .before .before .before .loop in
     let s = c .before .before .before .before .before .before .before .before .before .before .before .before .before .before .before .before .before .before .before .before .before .before .before .before in
     let p = c .before .before .before .before .before .before .before .before .before .before .before .run-phase .ensures in
-    made-left (racksOf (s .args .job)) _ (s .args .table .now) (going-fixed (s .pre .going)) (s .args .b) (s .args .due) _ _ _ _ _ _ _ _ (l .inv .3) (c .before .before .before .before .before .before .before .before .before .before .before .before .before .before .before .before .before .before .loop-test .taken) _ _ _ _ _ _ p
+    made-left (racksOf (s .args .job)) _ (s .args .table .now) (set-steady (s .pre)) (s .args .b) (s .args .due) _ _ _ _ _ _ _ _ (l .inv .3) (c .before .before .before .before .before .before .before .before .before .before .before .before .before .before .before .before .before .before .loop-test .taken) _ _ _ _ _ _ p
 
 loop-less : tie.Need-loop-less Inv-loop μ-loop
 loop-less c =
     let l = c .before .before .before .before .before .before .before .before .before .before .before .before .before .before .before .before .before .before .before .loop in
     let s = c .before .before .before .before .before .before .before .before .before .before .before .before .before .before .before .before .before .before .before .before .before .before .before .before in
     let p = c .before .before .before .before .before .before .before .before .before .before .before .run-phase .ensures in
-    omega (arith, made-left (racksOf (s .args .job)) _ (s .args .table .now) (going-fixed (s .pre .going)) (s .args .b) (s .args .due) _ _ _ _ _ _ _ _ (l .inv .3) (c .before .before .before .before .before .before .before .before .before .before .before .before .before .before .before .before .before .before .loop-test .taken) _ _ _ _ _ _ p, made-some (racksOf (s .args .job)) _ (s .args .table .now) (going-fixed (s .pre .going)) (s .args .b) (s .args .due) _ _ _ _ _ _ _ _ (l .inv .3) (c .before .before .before .before .before .before .before .before .before .before .before .before .before .before .before .before .before .before .loop-test .taken) _ _ _ _ _ _ p)
+    omega (arith, made-left (racksOf (s .args .job)) _ (s .args .table .now) (set-steady (s .pre)) (s .args .b) (s .args .due) _ _ _ _ _ _ _ _ (l .inv .3) (c .before .before .before .before .before .before .before .before .before .before .before .before .before .before .before .before .before .before .loop-test .taken) _ _ _ _ _ _ p, made-some (racksOf (s .args .job)) _ (s .args .table .now) (set-steady (s .pre)) (s .args .b) (s .args .due) _ _ _ _ _ _ _ _ (l .inv .3) (c .before .before .before .before .before .before .before .before .before .before .before .before .before .before .before .before .before .before .loop-test .taken) _ _ _ _ _ _ p)
 
 loop-again : tie.Need-loop-again Inv-loop μ-loop
 loop-again c =
@@ -70,7 +69,7 @@ loop-again c =
       omega (arith, k .1 .1 .1 .0, l .inv .0),
       omega (arith, k .1 .1 .1 .1 .0, l .inv .1),
       omega (arith, k .1 .1 .1 .1 .1 .1 .1 .1 .1 .1 .1 .1 .0, l .inv .2),
-      rw (c .add-phase .ensures) (round-next (racksOf (s .args .job)) _ (s .args .table .now) (going-fixed (s .pre .going)) (s .args .b) (s .args .due) _ _ _ _ _ _ _ _ (l .inv .3) (c .before .before .before .before .before .before .before .before .before .before .before .before .before .before .before .before .before .before .loop-test .taken) _ _ _ _ _ _ p _ _ _ (c .before .pay-moves .ensures)),
+      rw (c .add-phase .ensures) (round-next (racksOf (s .args .job)) _ (s .args .table .now) (set-steady (s .pre)) (s .args .b) (s .args .due) _ _ _ _ _ _ _ _ (l .inv .3) (c .before .before .before .before .before .before .before .before .before .before .before .before .before .before .before .before .before .before .loop-test .taken) _ _ _ _ _ _ p _ _ _ (c .before .pay-moves .ensures)),
     )
 
 same-length : tie.Need-same-length Inv-loop μ-loop
