@@ -1,5 +1,5 @@
 // Cases 2, 4, 5, 6 and 9 through the calls that plan and move, with the refusals of their lists and of B.
-use saying::say_answer;
+use saying::parts::say_answer;
 
 // The first `n` numbers of a list: `F` for 65,535.
 fn say_numbers(name: &[u8], list: &[u16], n: usize) {

@@ -10,7 +10,7 @@ mod say;
 fn finish(name: &[u8], caps: &[u16], b: usize, deal: Deal, places: &mut [u16], cards: &mut [u8]) {
     let before = check::wrong_slots(deal, b, places, cards);
     let answer = runs::whole_run(caps, b, places, cards);
-    saying::say_answer(name, answer);
+    saying::parts::say_answer(name, answer);
     let after = check::wrong_slots(deal, b, places, cards);
     say::say_wrong(before, after);
 }

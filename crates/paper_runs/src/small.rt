@@ -3,20 +3,20 @@ use crate::say;
 
 fn say_copies(name: &[u8], caps: &[u16], places: &[u16], lent: &mut [u16]) {
     let answer = copies::copy_list(caps, places, lent);
-    saying::say_answer(name, answer);
+    saying::parts::say_answer(name, answer);
     say::say_steps(lent);
 }
 
 fn say_shuffle(name: &[u8], caps: &[u16], b: usize, places: &mut [u16], cards: &mut [u8]) {
     let answer = shuffle::shuffle_cards(caps, b, places, cards);
-    saying::say_answer(name, answer);
+    saying::parts::say_answer(name, answer);
     say::say_places(places);
     say::say_cards(cards);
 }
 
 fn say_run(name: &[u8], caps: &[u16], b: usize, places: &mut [u16], cards: &mut [u8]) {
     let answer = runs::whole_run(caps, b, places, cards);
-    saying::say_answer(name, answer);
+    saying::parts::say_answer(name, answer);
     say::say_places(places);
     say::say_cards(cards);
 }
