@@ -1,0 +1,14 @@
+-- `seineflute::parts::text_numbers` meets its contract. Assumes nothing.
+use mathlib.Core.Path.{refl}
+use borrow.Author.Needs.{needs}
+use Rattle.seineflute.proofs.parts.text_numbers.Statement.{statement}
+use Rattle.seineflute.proofs.parts.text_numbers.Tie as tie
+
+cast-t2 : tie.Need-cast-t2
+cast-t2 c = search needs
+
+returns : tie.Need-returns
+returns c = refl
+
+pub text-numbers-spec : {M : Type 1} → statement M
+text-numbers-spec = tie.close (tie.spec cast-t2 returns)
