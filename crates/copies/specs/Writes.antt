@@ -1,23 +1,18 @@
 -- What the inner functions of the copy list promise: the sources in a table, marks, copies written into a list. Assumes nothing: these are definitions.
 use mathlib.Core.Path.{_≡_}
 use mathlib.Core.Logic.{_≢_}
-use mathlib.Core.Bool.{Bool, not}
+use mathlib.Core.Bool.{Bool}
 use mathlib.Core.List.{List, [], _∷_}
 use Prim.Native.Nat.{ℕ, zero, suc, _+_, _*_, _<_}
 use lib.Dec.{eqb}
 use lib.ListN.{length, getD, set}
 use lib.Seq.{sets}
-use Rattle.counting.specs.Tests.{_and_, pick}
+use Rattle.counting.specs.Tests.{pick}
 use Rattle.counting.specs.Count.{some}
 use Rattle.counting.specs.Lists.{Pair, flat, among, last}
 use Rattle.racks.specs.Limits.{FREE}
-use Rattle.racks.specs.Table.{dest, free}
-use Rattle.tables.specs.Tables.{namedSlot}
+use Rattle.tables.specs.Tables.{namedSlot, awayBy}
 use Rattle.copies.specs.Copies.{next, source, onward, factor, copies, copyList}
-
--- slot g has a card that is away, by a table of each slot's rack
-unfoldable pub awayBy : List ℕ → List ℕ → ℕ → Bool
-awayBy table places g = not (free places g) and not (eqb (getD table g 0) (getD table (dest places g) 0))
 
 -- a card is away, by a table of each slot's rack
 unfoldable pub someAwayBy : List ℕ → List ℕ → Bool

@@ -4,7 +4,8 @@ ghost use Prim.Native.Nat.{_≤_, _<_};
 ghost use lib.ListN.{length};
 ghost use Rattle.counting.specs.Tests.{_or_};
 ghost use Rattle.copies.specs.Chains.{Chained};
-ghost use Rattle.copies.specs.Writes.{awayBy, someAwayBy, Sources, AllWritten};
+ghost use Rattle.tables.specs.Tables.{awayBy};
+ghost use Rattle.copies.specs.Writes.{someAwayBy, Sources, AllWritten};
 
 pub mod shifts;
 

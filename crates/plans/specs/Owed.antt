@@ -1,14 +1,12 @@
 -- What racks owe, as the code counts it: a flat table of 64 by 64 counts at rack times 64 plus rack. Assumes nothing: these are definitions.
 use mathlib.Core.Path.{_≡_}
-use mathlib.Core.Bool.{Bool, not}
 use mathlib.Core.List.{List}
 use Prim.Native.Nat.{ℕ, zero, suc, _+_, _*_, _-_, _<_, min}
-use lib.Dec.{eqb}
 use lib.ListN.{length, getD}
-use Rattle.counting.specs.Tests.{_and_, pick}
+use Rattle.counting.specs.Tests.{pick}
 use Rattle.racks.specs.Racks.{Rack}
 use Rattle.racks.specs.Table.{dest, free, owes}
-use Rattle.tables.specs.Tables.{namedSlot}
+use Rattle.tables.specs.Tables.{namedSlot, target, awayBy}
 use Rattle.phases.specs.Plan.{other, room}
 use Rattle.queues.specs.Queued.{oneMore}
 
@@ -31,13 +29,9 @@ pub record Tallied (racks : List Rack) (places owed rooms : List ℕ) : Type 0 w
   pub owed-are : Owed racks places owed
   pub rooms-are : Roomy racks places rooms
 
--- slot g has a card that is away, by the table of each slot's rack
-unfoldable pub awayBy : List ℕ → List ℕ → ℕ → Bool
-awayBy places table g = not (free places g) and not (eqb (getD table g 0) (getD table (dest places g) 0))
-
 -- what racks owe with slot g counted: a card that is away adds one
 unfoldable pub owesWith : List ℕ → List ℕ → ℕ → List ℕ → List ℕ
-owesWith places table g owed = pick (awayBy places table g) (oneMore owed (cell (getD table g 0) (getD table (dest places g) 0))) owed
+owesWith places table g owed = pick (awayBy table places g) (oneMore owed (cell (getD table g 0) (target table places g))) owed
 
 -- the free slots of each rack with slot g counted: a free slot adds one
 unfoldable pub roomsWith : List ℕ → List ℕ → ℕ → List ℕ → List ℕ
@@ -54,7 +48,7 @@ pub record Countable (places table : List ℕ) (g : ℕ) (owed rooms : List ℕ)
   pub small : g < 4096
   pub rack : getD table g 0 < 64
   pub named : namedSlot g (dest places g) < 4096
-  pub racked : getD table (namedSlot g (dest places g)) 0 < 64
+  pub racked : target table places g < 64
   pub owed-long : length owed ≡ 4096
   pub owed-fit : (k : ℕ) → getD owed k 0 < 65535
   pub rooms-long : length rooms ≡ 64

@@ -1,6 +1,6 @@
 -- The pass that fills the queues: after g slots each rack's queue has the slots of the cards away to it among these. Assumes nothing.
-use mathlib.Core.Path.{_≡_, refl, ap, sym, _∙_}
-use mathlib.Core.Bool.{true, false, not}
+use mathlib.Core.Path.{_≡_, refl, sym, _∙_}
+use mathlib.Core.Bool.{true, false}
 use mathlib.Core.List.{List}
 use mathlib.Core.Logic.{_≢_}
 use Prim.Native.Nat.{ℕ, suc, _+_, _≤_, _<_}
@@ -8,20 +8,18 @@ use native.Mathlib.Omega.{arith}
 use native.Mathlib.Decide.{ℕ-discrete, decLt}
 use lib.ListN.{length, getD, set, length-set, replicate, length-replicate}
 use lib.Seq.{getD-set-same, getD-set-other}
-use borrow.Author.Tests.{eq-eqb}
-use Rattle.counting.specs.Tests.{_and_}
 use Rattle.counting.specs.Count.{select}
-use Rattle.counting.proofs.Tests.{by-test, off, no-way, and-off-l}
+use Rattle.counting.proofs.Tests.{by-test, off, no-way}
 use Rattle.counting.proofs.Select.{select-on, select-off}
 use Rattle.racks.specs.Racks.{Rack, base, slots}
-use Rattle.racks.specs.Table.{dest, free, rackTo, onRack, away, awayTo}
-use Rattle.racks.proofs.Geometry.{base-mono, end-le, rack-lt}
+use Rattle.racks.specs.Table.{away, awayTo}
+use Rattle.racks.proofs.Geometry.{base-mono, end-le}
 use Rattle.racks.specs.Legal.{Legal, Spared}
-use Rattle.racks.proofs.LegalTable.{legal-dest}
 use Rattle.racks.proofs.Away.{away-held, to-away, to-rack, to-is}
-use Rattle.tables.specs.Tables.{namedSlot, Filled}
+use Rattle.tables.specs.Tables.{target, Filled}
+use Rattle.tables.proofs.Targets.{here-lt, target-is, target-lt, named-lt, away-by}
 use Rattle.queues.specs.Queues.{part}
-use Rattle.queues.specs.Queued.{Firsts, target, sends, queued, tailed, oneMore, Queueable, Queued}
+use Rattle.queues.specs.Queued.{Firsts, queued, tailed, oneMore, Queueable, Queued}
 use Rattle.queues.proofs.Stretch.{part-none, part-push, part-before, part-behind}
 use Rattle.queues.proofs.Fits.{tailAt, tail-none, tail-up, tail-on, tail-off, tail-in, tail-room}
 
@@ -66,51 +64,20 @@ module _ (racks : List Rack) (places table : List ℕ) (t : Tabled racks places 
         (omega (arith, tail-up racks places p g, tail-in racks places q (t .legal) g (omega arith), base-mono racks (suc q) p (omega arith)))
   ]
 
-  -- the table has slot g's rack, which is one
-  here-lt : getD table g 0 < length racks
-  here-lt = omega (arith, t .filled g l, rack-lt racks g l)
-
-  -- the table has the rack where slot g's card must end
-  target-is : free places g ≡ false → target table places g ≡ rackTo racks places g
-  unfolding target namedSlot free rackTo
-  target-is f = rw f (t .filled (dest places g) (legal-dest racks places (t .legal) g l f))
-
-  -- of a free slot, its own
-  target-free : free places g ≡ true → target table places g ≡ getD table g 0
-  unfolding target namedSlot free
-  target-free f = rw f
-
-  -- which is a rack
-  target-lt : target table places g < length racks
-  unfolding rackTo
-  target-lt = by-test (free places g)
-      (λ f. omega (arith, target-free f, here-lt))
-      (λ f. rw (target-is f) (rack-lt racks (dest places g) (legal-dest racks places (t .legal) g l f)))
-
-  -- the entry names a slot
-  named-lt : namedSlot g (dest places g) < 4096
-  unfolding namedSlot free
-  named-lt = by-test (free places g)
-      (λ f. rw f (omega (arith, t .small)))
-      (λ f. rw f (omega (arith, legal-dest racks places (t .legal) g l f, t .small)))
-
-  -- by the table the card is away exactly where it is
-  sends-is : sends table places g ≡ away racks places g
-  unfolding sends away onRack _and_
-  sends-is = by-test (free places g)
-      (λ f. ap not (eq-eqb (getD table g 0) (target table places g) (sym (target-free f))) ∙ sym (and-off-l _ (ap not f)))
-      (λ f. rw (f, t .filled g l, target-is f))
+  -- the rack where slot g's card must end is one; of a free slot, its own
+  to-lt : target table places g < length racks
+  to-lt = target-lt racks places table (t .legal) (t .filled) g l
 
   module _ (queue tails : List ℕ) (q : Queueing racks places g queue tails) where
     -- the tail of that rack's queue
     target-tail : getD tails (target table places g) 0 ≡ tailAt racks places g (target table places g)
-    target-tail = q .tails-are (target table places g) target-lt
+    target-tail = q .tails-are (target table places g) to-lt
 
     -- a card that is away
     module _ (a : away racks places g ≡ true) where
       -- is away to the rack where it must end
       sent-to : awayTo racks places (target table places g) g ≡ true
-      sent-to = to-is racks places (target table places g) g a (sym (target-is (away-held racks places g a)))
+      sent-to = to-is racks places (target table places g) g a (sym (target-is racks places table (t .legal) (t .filled) g l (away-held racks places g a)))
 
     -- the slot can be queued
     pub queueable : Queueable table places g tails
@@ -118,10 +85,10 @@ module _ (racks : List Rack) (places table : List ℕ) (t : Tabled racks places 
         record {
           slot = omega (arith, t .legal .long);
           small = omega (arith, t .small);
-          rack = omega (arith, here-lt, t .few);
-          named = named-lt;
-          racked = omega (arith, target-lt, t .few);
-          fits = omega (arith, target-tail, room-at (target table places g) target-lt, end-le racks (target table places g) target-lt, t .small);
+          rack = omega (arith, here-lt racks places table (t .legal) (t .filled) g l, t .few);
+          named = omega (arith, named-lt racks places table (t .legal) (t .filled) g l, t .small);
+          racked = omega (arith, to-lt, t .few);
+          fits = omega (arith, target-tail, room-at (target table places g) to-lt, end-le racks (target table places g) to-lt, t .small);
         }
 
     -- no card is away from slot g: the store is behind rack p's queue, and the queues stay
@@ -170,7 +137,7 @@ module _ (racks : List Rack) (places table : List ℕ) (t : Tabled racks places 
     -- the queues after slot g
     pub queueing-more : (queue′ tails′ : List ℕ) → Queued table places g queue tails queue′ tails′ → Queueing racks places (g + 1) queue′ tails′
     unfolding queued tailed oneMore
-    queueing-more queue′ tails′ s = rw (s .queue-is, s .tails-are, sends-is)
+    queueing-more queue′ tails′ s = rw (s .queue-is, s .tails-are, away-by racks places table (t .legal) (t .filled) g l)
         (by-test (away racks places g)
-        (λ a. rw (a, target-tail) (queueing-sent (target table places g) target-lt (sent-to a)))
-        (λ a. rw (a, target-tail) (queueing-kept (target table places g) target-lt a)))
+        (λ a. rw (a, target-tail) (queueing-sent (target table places g) to-lt (sent-to a)))
+        (λ a. rw (a, target-tail) (queueing-kept (target table places g) to-lt a)))

@@ -1,27 +1,17 @@
 -- The pass that fills the queues, a slot at a time, as the code makes it. Assumes nothing: these are definitions.
 use mathlib.Core.Path.{_≡_}
-use mathlib.Core.Bool.{Bool, not}
 use mathlib.Core.List.{List}
 use Prim.Native.Nat.{ℕ, _+_, _<_}
-use lib.Dec.{eqb}
 use lib.ListN.{length, getD, set}
 use Rattle.counting.specs.Tests.{pick}
 use Rattle.racks.specs.Racks.{Rack, base}
 use Rattle.racks.specs.Table.{dest}
-use Rattle.tables.specs.Tables.{namedSlot}
+use Rattle.tables.specs.Tables.{namedSlot, target, awayBy}
 
 -- the list has each rack's first slot
 pub record Firsts (racks : List Rack) (list : List ℕ) : Type 0 where
   pub slots-are : (p : ℕ) → p < length racks → getD list p 0 ≡ base racks p
   pub long : length list ≡ 64
-
--- by a table of each slot's rack: the rack where the card in slot g must end; of a free slot, its own
-unfoldable pub target : List ℕ → List ℕ → ℕ → ℕ
-target table places g = getD table (namedSlot g (dest places g)) 0
-
--- slot g has a card that is away
-unfoldable pub sends : List ℕ → List ℕ → ℕ → Bool
-sends table places g = not (eqb (getD table g 0) (target table places g))
 
 -- the queues after slot g: it stands at the tail of that rack's queue. Where no card is away the tail stays, so that this is behind the
 -- queue, where nothing is read
@@ -36,7 +26,7 @@ oneMore counts k = set counts k (getD counts k 0 + 1)
 unfoldable pub tailed : List ℕ → List ℕ → ℕ → List ℕ → List ℕ
 tailed table places g tails =
     let p = target table places g in
-    pick (sends table places g) (oneMore tails p) tails
+    pick (awayBy table places g) (oneMore tails p) tails
 
 -- slot g can be queued: it and its card's destination are slots, the table has racks there, and its card's queue has room
 pub record Queueable (table places : List ℕ) (g : ℕ) (tails : List ℕ) : Type 0 where

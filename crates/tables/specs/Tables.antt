@@ -1,5 +1,6 @@
 -- What the tables of bytes hold, and the number of a lent table, by the job. Assumes nothing: these are definitions.
 use mathlib.Core.Path.{_≡_}
+use mathlib.Core.Bool.{Bool, not}
 use mathlib.Core.List.{List, [], _∷_}
 use Prim.Native.Nat.{ℕ, _≤_, _<_}
 use lib.Dec.{eqb}
@@ -8,6 +9,7 @@ use Rattle.counting.specs.Tests.{bit, pick}
 use Rattle.counting.specs.Checks.{first, refusal, done}
 use Rattle.racks.specs.Limits.{FREE}
 use Rattle.racks.specs.Racks.{Rack, slots, rackOf, isUser}
+use Rattle.racks.specs.Table.{dest}
 use Rattle.racks.specs.Numbers.{badBytes, tableChecks, cardChecks}
 use Rattle.racks.specs.Job.{racksOf}
 use Rattle.racks.specs.declared.Job.{Job}
@@ -15,6 +17,14 @@ use Rattle.racks.specs.declared.Job.{Job}
 -- the slot that entry x of slot g names; where slot g is free, itself
 unfoldable pub namedSlot : ℕ → ℕ → ℕ
 namedSlot g x = pick (eqb x FREE) g x
+
+-- by a table of each slot's rack: the rack where the card in slot g must end; where the slot is free, its own
+unfoldable pub target : List ℕ → List ℕ → ℕ → ℕ
+target table places g = getD table (namedSlot g (dest places g)) 0
+
+-- by that table, slot g has a card that is away
+unfoldable pub awayBy : List ℕ → List ℕ → ℕ → Bool
+awayBy table places g = not (eqb (getD table g 0) (target table places g))
 
 -- the table has each slot's rack
 abbrev pub Filled : List Rack → List ℕ → Type 0

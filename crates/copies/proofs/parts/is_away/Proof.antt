@@ -1,7 +1,7 @@
 use borrow.Author.Needs.{needs}
 use native.Mathlib.Omega.{arith}
 use Rattle.copies.proofs.Sourced.{named-low}
-use Rattle.copies.proofs.AwayBy.{by-named}
+use Rattle.tables.proofs.Targets.{at-away}
 use Rattle.copies.proofs.parts.is_away.Statement.{statement}
 use Rattle.copies.proofs.parts.is_away.Tie as tie
 
@@ -24,7 +24,7 @@ element-copy-out-result-2 c =
     omega (arith, n, named-low (s .pre .0) (s .args .g) (s .pre .1), s .pre .0 .small)
 
 returns : tie.Need-returns
-returns c = by-named _ _ _ _ (c .before .before .named-slot .ensures)
+returns c = at-away _ _ _ _ (c .before .before .named-slot .ensures)
 
 pub is-away-spec : {M : Type 1} → statement M
 is-away-spec =
