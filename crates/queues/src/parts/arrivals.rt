@@ -69,7 +69,7 @@ pub fn queue_up(
     *tails = first;
     *firsts = first;
     *ends = last;
-    *waiting = 18446744073709551615;
+    *waiting = u64::MAX;
     openings::find_free(places, bits);
     let mut g: usize = 0;
     while g < job.slots {
