@@ -17,7 +17,7 @@ use Rattle.counting.proofs.Select.{sum-mono, sum-more}
 use Rattle.counting.proofs.Lists.{join-more, length-join}
 use Rattle.counting.proofs.Stores.{sets-flat-none, sets-flat-append}
 use Rattle.bits.specs.Bits.{bitOn, turnedOff, Next}
-use Rattle.bits.proofs.Words.{turned-off-other}
+use Rattle.bits.proofs.Words.{turned-off-here, turned-off-other}
 use Rattle.queues.specs.Queues.{Rows, pairsFor, queuedPlan, served, Bounded, Written, PhasePlanned}
 use Rattle.queues.proofs.Pairing.{served-end, served-le}
 
@@ -61,11 +61,52 @@ pub record Inside (p : ℕ) (rows : Rows) (after : List ℕ) (count : ℕ) (head
   pub high : getD (rows .ends) p 0 ≤ 4096
   pub room : 2 * count + 2 * length (pairsFor rows p) ≤ length after
 
--- the racks before p are planned, and p is the next that waits, or there is none
-pub record Reached (n p : ℕ) (rows : Rows) (before after : List ℕ) (count : ℕ) (heads : List ℕ) (waiting : ℕ) : Type 0 where
+-- the racks still to be visited: none before p, and from p on those that waited at the start
+pub record Ahead (p start left : ℕ) : Type 0 where
+  pub below : (q : ℕ) → q < p → bitOn left q ≡ false
+  pub rest : (q : ℕ) → p ≤ q → bitOn left q ≡ bitOn start q
+
+module _ {p start left : ℕ} (a : Ahead p start left) where
+  -- p is visited
+  ahead-off : Ahead (p + 1) start (turnedOff left p)
+  ahead-off = record {
+    below = λ q l. elim (ℕ-discrete q p) [
+      | yes e ↦ rw e (turned-off-here left p)
+      | no e ↦ turned-off-other left p q e ∙ a .below q (omega arith)
+    ];
+    rest = λ q l. turned-off-other left p q (λ e. omega arith) ∙ a .rest q (omega arith);
+  }
+
+  module _ {q : ℕ} (o : Next (bitOn left) 0 64 q) where
+    -- the first to be visited does not lie before p
+    ahead-up : p ≤ 64 → p ≤ q
+    ahead-up m = elim (decLe p q) [
+      | yes l ↦ l
+      | no l ↦ absurd (no-way (o .hit (omega arith)) (a .below q (omega arith)))
+    ]
+
+    -- it is the first from p on that waited at the start
+    ahead-next : p ≤ 64 → Next (bitOn start) p 64 q
+    ahead-next m = record {
+      up = ahead-up m;
+      within = o .within;
+      passed = λ k l i. sym (a .rest k l) ∙ o .passed k (omega arith) i;
+      hit = λ l. sym (a .rest q (ahead-up m)) ∙ o .hit l;
+    }
+
+    -- none before it is to be visited
+    ahead-on : p ≤ 64 → Ahead q start left
+    ahead-on m = record {
+      below = λ k l. o .passed k (omega arith) l;
+      rest = λ k l. a .rest k (omega (arith, ahead-up m));
+    }
+
+-- the racks before p are planned, and p is the next to be visited, or there is none
+pub record Reached (n p : ℕ) (rows : Rows) (before after : List ℕ) (count : ℕ) (heads : List ℕ) (waiting left : ℕ) : Type 0 where
   pub planned : Planned n (min p n) rows before after count heads waiting
   pub hit : p < 64 → bitOn waiting p ≡ true
   pub within : p ≤ 64
+  pub ahead : Ahead p (rows .waiting) left
 
 module _ {n : ℕ} {rows : Rows} {before : List ℕ} (b : Bounded n rows) where
   -- no rack is planned yet
@@ -121,20 +162,24 @@ module _ {n : ℕ} {rows : Rows} {before : List ℕ} (b : Bounded n rows) where
       | no i ↦ let e : p ≡ suc q = omega arith in rw e at s
     ]
 
-    -- that one is reached
-    pub reached-next : {p q : ℕ} → Planned n p rows before after count heads waiting → Next (bitOn waiting) p 64 q → Reached n q rows before after count heads waiting
-    reached-next {p} {q} s o =
+    -- the next to be visited is reached
+    pub reached-next : {p q left : ℕ} → Planned n p rows before after count heads waiting → Ahead p (rows .waiting) left → Next (bitOn left) 0 64 q
+        → Reached n q rows before after count heads waiting left
+    reached-next {p} {q} s a o =
+        let m : p ≤ 64 = omega (arith, s .few, b .few) in
+        let i : Next (bitOn (rows .waiting)) p 64 q = ahead-next a o m in
         record {
-          planned = planned-to s (min q n) (omega (arith, o .up, s .few)) (omega arith) (λ k l m. o .passed k l (omega arith));
-          hit = o .hit;
+          planned = planned-to s (min q n) (omega (arith, i .up, s .few)) (omega arith) (λ k l j. s .bits-rest k l ∙ i .passed k l (omega arith));
+          hit = λ l. s .bits-rest q (i .up) ∙ i .hit l;
           within = o .within;
+          ahead = ahead-on a o m;
         }
 
   -- the first rack that waits
-  pub reached-first : {p : ℕ} → Next (bitOn (rows .waiting)) 0 64 p → Reached n p rows before before 0 (rows .heads) (rows .waiting)
-  reached-first o = reached-next planned-none o
+  pub reached-first : {p : ℕ} → Next (bitOn (rows .waiting)) 0 64 p → Reached n p rows before before 0 (rows .heads) (rows .waiting) (rows .waiting)
+  reached-first o = reached-next planned-none (record { below = λ q l. absurd (omega arith); rest = λ q l. refl }) o
 
-module _ {n p : ℕ} {rows : Rows} {before after : List ℕ} {count : ℕ} {heads : List ℕ} {waiting : ℕ} (b : Bounded n rows) (r : Reached n p rows before after count heads waiting) where
+module _ {n p : ℕ} {rows : Rows} {before after : List ℕ} {count : ℕ} {heads : List ℕ} {waiting left : ℕ} (b : Bounded n rows) (r : Reached n p rows before after count heads waiting left) where
   -- the list is as long as it was
   pub planned-long : length after ≡ length before
   planned-long = ap length (r .planned .done .list) ∙ length-sets before 0 (flat (queuedPlan (min p n) rows))
@@ -151,6 +196,12 @@ module _ {n p : ℕ} {rows : Rows} {before after : List ℕ} {count : ℕ} {head
     -- p's queue is that of the start
     head-is : getD heads p 0 ≡ getD (rows .heads) p 0
     head-is = here .heads-rest p (omega arith)
+
+    -- the next to be visited lies behind it
+    pub reached-up : {q left′ : ℕ} → left′ ≡ turnedOff left p → Next (bitOn left′) 0 64 q → p < q
+    reached-up {q} {left′} i o =
+        let a : Ahead (p + 1) (rows .waiting) left′ = rw i (ahead-off (r .ahead)) in
+        omega (arith, ahead-up a o (omega (arith, b .few)))
 
     -- its numbers are within their bounds
     pub planned-inside : 2 * length (queuedPlan n rows) ≤ length before → Inside p rows after count heads
@@ -222,6 +273,7 @@ module _ {n p : ℕ} {rows : Rows} {before after : List ℕ} {count : ℕ} {head
             head-other : (q : ℕ) → (q ≡ p → ⊥) → getD (set heads p (getD heads p 0 + made)) q 0 ≡ getD heads q 0
             head-other q i = getD-set-other heads p q (getD heads p 0 + made) 0 i
 
-        -- and the next rack that waits is reached
-        pub reached-more : {q : ℕ} → Next (bitOn waiting′) (p + 1) 64 q → Reached n q rows before after′ (count + made) (set heads p (getD heads p 0 + made)) waiting′
-        reached-more o = reached-next b planned-more o
+        -- and the next rack to be visited is reached
+        pub reached-more : {q left′ : ℕ} → left′ ≡ turnedOff left p → Next (bitOn left′) 0 64 q
+            → Reached n q rows before after′ (count + made) (set heads p (getD heads p 0 + made)) waiting′ left′
+        reached-more {q} {left′} i o = let a : Ahead (p + 1) (rows .waiting) left′ = rw i (ahead-off (r .ahead)) in reached-next b planned-more a o

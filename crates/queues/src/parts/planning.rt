@@ -49,18 +49,19 @@ pub fn plan_rack(
     tail - head
 }
 
-// A word of racks that wait: without rack p where no more cards wait for it.
-fn still_waiting(waiting: u64, p: usize, more: bool) -> u64
+// The racks that wait: without rack p where no more cards wait for it. Few phases are a rack's last, so most store nothing.
+fn stop_waiting(waiting: &mut u64, p: usize, more: bool)
     requires { ⌜ p < 64 ⌝ }
-    ensures { λ r. ⌜ r ≡ pick more waiting (turnedOff waiting p) ⌝ }
+    ensures { λ _. ⌜ now (waiting .exit) ≡ pick more (now (waiting .entry)) (turnedOff (now (waiting .entry)) p) ⌝ }
 {
     if more {
-        return waiting;
+        return;
     }
-    bits::parts::turn_off(waiting, p)
+    *waiting = bits::parts::turn_off(*waiting, p);
 }
 
-// Plans a phase of n racks: its pairs from the front of the list, by target rack, and how many they are. Only racks that wait are visited.
+// Plans a phase of n racks: its pairs from the front of the list, by target rack, and how many they are. Only racks that wait are visited,
+// each taken out of a word of those still to be visited.
 // Each queue then begins behind the cards that it sends, and a rack whose queue is used up waits no more.
 pub fn plan_phase(
     n: usize,
@@ -78,7 +79,8 @@ pub fn plan_phase(
     ensures { λ r. ⌜ PhasePlanned n (rowsOf (now (queue .entry)) (now (heads .entry)) (now (tails .entry)) (now (firsts .entry)) (now (ends .entry)) (now (bits .entry)) (now (waiting .entry))) (now (pairs .entry)) (now (pairs .exit)) r (now (heads .exit)) (now (waiting .exit)) ⌝ }
 {
     let mut count: usize = 0;
-    let mut p = bits::parts::next_on(*waiting, 0);
+    let mut left = *waiting;
+    let mut p = bits::parts::next_on(left, 0);
     while p < n {
         let head = heads[p] as usize;
         let tail = tails[p] as usize;
@@ -93,9 +95,10 @@ pub fn plan_phase(
             2 * count,
         );
         heads[p] = (head + made) as u16;
-        *waiting = still_waiting(*waiting, p, head + made < tail);
+        stop_waiting(waiting, p, head + made < tail);
+        left = bits::parts::turn_off(left, p);
         count = count + made;
-        p = bits::parts::next_on(*waiting, p + 1);
+        p = bits::parts::next_on(left, 0);
     }
     count
 }

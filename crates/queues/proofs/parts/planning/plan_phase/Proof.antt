@@ -3,16 +3,16 @@ use native.Mathlib.Omega.{arith}
 use Prim.Native.Nat.{_+_, _-_, _^_, _≤_, _<_}
 use lib.ListN.{length, getD}
 use Rattle.queues.specs.Queues.{rowsOf}
-use Rattle.queues.proofs.Planning.{Reached, Inside, reached-first, planned-long, planned-all, planned-inside, next-pairs, next-few, next-made, reached-more}
+use Rattle.queues.proofs.Planning.{Reached, Inside, reached-first, planned-long, planned-all, planned-inside, next-pairs, next-few, next-made, reached-up, reached-more}
 use Rattle.queues.proofs.parts.planning.plan_phase.Statement.{statement}
 use Rattle.queues.proofs.parts.planning.plan_phase.Tie as tie
 
 abbrev Inv-loop : tie.InvT-loop
-Inv-loop n queue heads₀ tails firsts ends bits waiting₀ pairs₀ count₀ p₀ heads waiting pairs count p =
-    Reached n p (rowsOf queue heads₀ tails firsts ends bits waiting₀) pairs₀ pairs count heads waiting
+Inv-loop n queue heads₀ tails firsts ends bits waiting₀ pairs₀ count₀ left₀ p₀ heads waiting pairs count left p =
+    Reached n p (rowsOf queue heads₀ tails firsts ends bits waiting₀) pairs₀ pairs count heads waiting left
 
 abbrev μ-loop : tie.MeasureT-loop
-μ-loop n queue heads₀ tails firsts ends bits waiting₀ pairs₀ count₀ p₀ heads waiting pairs count p = n - p
+μ-loop n queue heads₀ tails firsts ends bits waiting₀ pairs₀ count₀ left₀ p₀ heads waiting pairs count left p = n - p
 
 -- the next rack's numbers are within their bounds
 rack : (c : tie.In-loop Inv-loop μ-loop) →
@@ -103,28 +103,30 @@ mul-heads c = let r = rack (c .before .before .before .before .before .before .b
 element-write-heads : tie.Need-element-write-heads Inv-loop μ-loop
 element-write-heads c = let r = rack (c .before .before .before .before .before .before .before .before) in omega arith
 
-add-still-waiting : tie.Need-add-still-waiting Inv-loop μ-loop
-add-still-waiting c = let g = grown (c .before) in omega arith
+add-stop-waiting : tie.Need-add-stop-waiting Inv-loop μ-loop
+add-stop-waiting c = let g = grown (c .before) in omega arith
 
-still-waiting-requires : tie.Need-still-waiting-requires Inv-loop μ-loop
-still-waiting-requires c κs = let r = rack (c .before .before .before .before .before .before .before .before .before) in r .rack
+stop-waiting-requires : tie.Need-stop-waiting-requires Inv-loop μ-loop
+stop-waiting-requires c κs = let r = rack (c .before .before .before .before .before .before .before .before .before) in omega (arith, r .rack)
+
+turn-off-requires : tie.Need-turn-off-requires Inv-loop μ-loop
+turn-off-requires c κs = let r = rack (c .before .before .before .before .before .before .before .before .before .before) in omega (arith, r .rack)
 
 add-count : tie.Need-add-count Inv-loop μ-loop
-add-count c = let g = grown (c .before .before) in omega arith
-
-add-next-on : tie.Need-add-next-on Inv-loop μ-loop
-add-next-on c = let r = rack (c .before .before .before .before .before .before .before .before .before .before) in omega arith
+add-count c = let g = grown (c .before .before .before) in omega arith
 
 next-on-requires-2 : tie.Need-next-on-requires-2 Inv-loop μ-loop
-next-on-requires-2 c κs = let r = rack (c .before .before .before .before .before .before .before .before .before .before) in omega arith
+next-on-requires-2 c κs = omega arith
 
 loop-less : tie.Need-loop-less Inv-loop μ-loop
-loop-less c = omega (arith, c .next-on2 .ensures .up)
+loop-less c =
+    let s = c .before .before .before .before .before .before .before .before .before .before .before .before .before .before .before .before .before in
+    omega (arith, reached-up (s .pre .0) (c .before .before .before .before .before .before .before .before .before .before .before .before .before .loop .inv) (omega arith) (c .before .turn-off .ensures) (c .next-on2 .ensures))
 
 loop-again : tie.Need-loop-again Inv-loop μ-loop
 loop-again c =
-    let s = c .before .before .before .before .before .before .before .before .before .before .before .before .before .before .before .before in
-    reached-more (s .pre .0) (c .before .before .before .before .before .before .before .before .before .before .before .before .loop .inv) (omega arith) (c .before .before .before .before .before .plan-rack .ensures) (c .before .still-waiting .ensures) (c .next-on2 .ensures)
+    let s = c .before .before .before .before .before .before .before .before .before .before .before .before .before .before .before .before .before in
+    reached-more (s .pre .0) (c .before .before .before .before .before .before .before .before .before .before .before .before .before .loop .inv) (omega arith) (c .before .before .before .before .before .before .plan-rack .ensures) (c .before .before .stop-waiting .ensures) (c .before .turn-off .ensures) (c .next-on2 .ensures)
 
 same-length : tie.Need-same-length Inv-loop μ-loop
 same-length c = let s = c .before .before .before .before .before in planned-long (s .pre .0) (c .before .loop .inv)
@@ -158,10 +160,10 @@ plan-phase-spec =
     cast-heads
     mul-heads
     element-write-heads
-    add-still-waiting
-    still-waiting-requires
+    add-stop-waiting
+    stop-waiting-requires
+    turn-off-requires
     add-count
-    add-next-on
     next-on-requires-2
     loop-less
     loop-again
