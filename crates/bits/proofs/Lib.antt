@@ -3,3 +3,4 @@ pub mod Sets
 pub mod Fills
 pub mod Trailing
 pub mod Nexts
+pub mod Walks

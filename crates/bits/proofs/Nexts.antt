@@ -76,9 +76,15 @@ module _ (word s : ℕ) (fits : word < 2 ^ 64) (some : word / 2 ^ s ≡ 0 → �
   }
 
 -- number k of a set, by its word and its bit
-is-on-at : (words : List ℕ) (k w b : ℕ) → k / 64 ≡ w → k % 64 ≡ b → isOn words k ≡ bitOn (getD words w 0) b
+pub is-on-at : (words : List ℕ) (k w b : ℕ) → k / 64 ≡ w → k % 64 ≡ b → isOn words k ≡ bitOn (getD words w 0) b
 unfolding isOn
 is-on-at words k w b p q = rw (p, q)
+
+-- a word whose bit in the last one is off has no bit on
+pub top-off : {words : List ℕ} → Topped words → (w j : ℕ) → w < 64 → bitOn (getD words 64 0) w ≡ false → bitOn (getD words w 0) j ≡ false
+top-off {words} t w j l f =
+    let z : getD words w 0 ≡ 0 = eqb-true (getD words w 0) 0 (not-off-is (sym (t .tops w l) ∙ f)) in
+    ap (λ (x : ℕ). bitOn x j) z ∙ bit-none j
 
 module _ (words : List ℕ) (g b : ℕ) (h : g < 4096) (n : Next (bitOn (getD words (g / 64) 0)) (g % 64) 64 b) where
   -- before the bit that is next in g's own word no number is in the set
@@ -97,18 +103,12 @@ module _ (words : List ℕ) (g b : ℕ) (h : g < 4096) (n : Next (bitOn (getD wo
   }
 
   module _ (t : Topped words) (e : 64 ≤ b) (v : ℕ) (m : Next (bitOn (getD words 64 0)) (g / 64 + 1) 64 v) where
-    -- a word whose bit in the last one is off has no bit on
-    top-off : (w j : ℕ) → w < 64 → bitOn (getD words 64 0) w ≡ false → bitOn (getD words w 0) j ≡ false
-    top-off w j l f =
-        let z : getD words w 0 ≡ 0 = eqb-true (getD words w 0) 0 (not-off-is (sym (t .tops w l) ∙ f)) in
-        ap (λ (x : ℕ). bitOn x j) z ∙ bit-none j
-
     -- before the next word that has one no number is in the set
     later-passed : (k : ℕ) → g ≤ k → k < v * 64 → isOn words k ≡ false
     later-passed k l p = elim (ℕ-discrete (k / 64) (g / 64)) [
       | yes q ↦ own-passed k l (omega (arith, n .within))
       | no q ↦ is-on-at words k (k / 64) (k % 64) refl refl
-          ∙ top-off (k / 64) (k % 64) (omega (arith, m .within)) (m .passed (k / 64) (omega arith) (omega arith))
+          ∙ top-off t (k / 64) (k % 64) (omega (arith, m .within)) (m .passed (k / 64) (omega arith) (omega arith))
     ]
 
     -- no word behind g's own has one

@@ -3,7 +3,7 @@
 use mathlib.Core.Path.{_≡_}
 use mathlib.Core.Bool.{Bool, true, false, not}
 use mathlib.Core.List.{List}
-use Prim.Native.Nat.{ℕ, _/_, _%_, _^_, _≤_, _<_}
+use Prim.Native.Nat.{ℕ, _+_, _*_, _/_, _%_, _^_, _≤_, _<_}
 use lib.Dec.{eqb}
 use lib.Bits.{bitAnd, bitOr, bitXor}
 use lib.ListN.{length, getD, set}
@@ -58,3 +58,17 @@ pub record Next (test : ℕ → Bool) (low high r : ℕ) : Type 0 where
   pub within : r ≤ high
   pub passed : (k : ℕ) → low ≤ k → k < r → test k ≡ false
   pub hit : r < high → test r ≡ true
+
+-- a walk over a set has come to t: bit k of rest is on where number at + k, of at's word and not before t, is in the set; none from t up to at is
+pub record Walking (words : List ℕ) (t at rest : ℕ) : Type 0 where
+  pub few : at ≤ 4096
+  pub within : t ≤ (at / 64 + 1) * 64
+  pub passed : (k : ℕ) → t ≤ k → k < at → isOn words k ≡ false
+  pub gone : (k : ℕ) → at + k < t → bitOn rest k ≡ false
+  pub ahead : (k : ℕ) → t ≤ at + k → (at + k) / 64 ≡ at / 64 → bitOn rest k ≡ isOn words (at + k)
+  pub over : (k : ℕ) → at / 64 < (at + k) / 64 → bitOn rest k ≡ false
+
+-- a walk goes on, to a later word maybe, wherever it has come to; where nothing is left then, no number from there up to high is in the set
+pub record Walked (words : List ℕ) (high at rest at′ rest′ : ℕ) : Type 0 where
+  pub kept : (t : ℕ) → Walking words t at rest → Walking words t at′ rest′
+  pub none : (t : ℕ) → Walking words t at rest → rest′ ≡ 0 → (k : ℕ) → t ≤ k → k < high → isOn words k ≡ false

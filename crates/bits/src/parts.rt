@@ -2,7 +2,7 @@
 ghost use mathlib.Core.Path.{_≡_};
 ghost use Prim.Native.Nat.{_≤_, _<_};
 ghost use lib.ListN.{length};
-ghost use Rattle.bits.specs.Bits.{bitOn, turnedOn, turnedOff, isOn, marked, filled, cleared, Topped, Next};
+ghost use Rattle.bits.specs.Bits.{bitOn, turnedOn, turnedOff, isOn, marked, filled, cleared, Topped, Next, Walked};
 
 // The first bit of a word from bit s up that is on; 64 where none is.
 pub fn next_on(word: u64, s: usize) -> usize
@@ -87,4 +87,32 @@ pub fn next_marked(words: &[u64; 65], g: usize) -> usize
         return 4096;
     }
     v * 64 + next_on(words[v], 0)
+}
+
+// A walk over the set, word by word: bit k of what is left of a word is number at + k.
+pub struct Walk {
+    pub at: usize,
+    pub rest: u64,
+}
+
+// A walk goes on: where nothing of the word is left, to the next that has a bit on, if it begins below `high`.
+pub fn walk_on(words: &[u64; 65], at: usize, rest: u64, high: usize) -> Walk
+    requires { ⌜ (at ≤ 4096) × (high ≤ 4096) × Topped (now words) ⌝ }
+    ensures { λ r. ⌜ Walked (now (words .entry)) high at rest (r .at) (r .rest) ⌝ }
+{
+    if rest != 0 {
+        return Walk { at, rest };
+    }
+    let w = at / 64 + 1;
+    if high <= w * 64 {
+        return Walk { at, rest: 0 };
+    }
+    let v = next_on(words[64], w);
+    if high <= v * 64 {
+        return Walk { at, rest: 0 };
+    }
+    Walk {
+        at: v * 64,
+        rest: words[v],
+    }
 }

@@ -25,6 +25,14 @@ module _ (bits : List ℕ) (low g : ℕ) where
   unfolding openFrom _and_
   open-above l = rw (le-leb low g l)
 
+-- none of the set from low up to high: no slot is left
+pub open-over : (bits : List ℕ) (low high : ℕ) → ((k : ℕ) → low ≤ k → k < high → isOn bits k ≡ false) → opens bits low high ≡ []
+unfolding opens
+open-over bits low high f = select-none high (openFrom bits low) (λ g m. elim (decLt g low) [
+  | yes l ↦ open-below bits low g l
+  | no l ↦ open-above bits low g (omega arith) ∙ f g (omega arith) m
+])
+
 -- t is the next of the set from low on
 module _ (bits : List ℕ) {low t : ℕ} (o : Next (isOn bits) low 4096 t) where
   -- none lies before it

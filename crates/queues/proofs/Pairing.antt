@@ -1,7 +1,8 @@
 -- Laws of writing the pairs of one target: what one pair more does to the list, and when all are written. Assumes nothing.
 use mathlib.Core.Path.{_≡_, refl}
+use mathlib.Core.Bool.{false}
 use mathlib.Core.List.{List, [], _∷_}
-use Prim.Native.Nat.{ℕ, _+_, _*_, _-_, _≤_, _<_}
+use Prim.Native.Nat.{ℕ, _+_, _*_, _-_, _/_, _%_, _^_, _≤_, _<_}
 use native.Mathlib.Omega.{arith}
 use native.Mathlib.Numerals.{add-one}
 use lib.ListN.{length, getD, set, length-set}
@@ -9,9 +10,10 @@ use lib.Seq.{sets, slice-empty, slice-cons, length-slice}
 use Rattle.counting.specs.Lists.{pairUp, flat}
 use Rattle.counting.proofs.Pairs.{length-pairUp, pairUp-nil}
 use Rattle.counting.proofs.Stores.{sets-flat-none, sets-flat-more}
-use Rattle.bits.specs.Bits.{isOn, Next}
+use Rattle.bits.specs.Bits.{bitOn, turnedOff, isOn, Topped, Next, Walking, Walked}
+use Rattle.bits.proofs.Walks.{walk-from, walk-next, walk-more}
 use Rattle.queues.specs.Queues.{opens, part, served, Written}
-use Rattle.queues.proofs.Opens.{open-none, open-first}
+use Rattle.queues.proofs.Opens.{open-over, open-none, open-first}
 
 module _ (bits queue : List ℕ) (head tail low high : ℕ) where
   -- no card waits: no pair
@@ -24,6 +26,11 @@ module _ (bits queue : List ℕ) (head tail low high : ℕ) where
   unfolding served part
   served-le l q =
       omega (arith, length-pairUp (part queue head tail) (opens bits low high), length-slice head tail queue q)
+
+  -- no slot is free: no pair
+  pub served-over : ((k : ℕ) → low ≤ k → k < high → isOn bits k ≡ false) → served bits queue head tail low high ≡ []
+  unfolding served
+  served-over f = rw (open-over bits low high f) (pairUp-nil (part queue head tail))
 
   -- t is the next free slot
   module _ {t : ℕ} (o : Next (isOn bits) low 4096 t) where
@@ -67,6 +74,10 @@ module _ {bits queue : List ℕ} {head tail low high : ℕ} {before : List ℕ} 
         let d : tail - head ≡ h - head = omega arith in
         rw d (left-done (served-end bits queue h tail t high e))
 
+    -- no slot from t on is free
+    pub left-over : ((i : ℕ) → t ≤ i → i < high → isOn bits i ≡ false) → Written (served bits queue head tail low high) before at after (h - head)
+    left-over f = left-done (served-over bits queue h tail t high f)
+
     -- t′ is the next free slot from t on
     module _ {t′ : ℕ} (o : Next (isOn bits) t 4096 t′) where
       -- no slot of the rack is left
@@ -97,3 +108,49 @@ module _ {bits queue : List ℕ} {head tail low high : ℕ} {before : List ℕ} 
               all = omega arith;
               behind = omega (arith, l .behind);
             }
+
+-- the same, where a walk over the free slots has come to t
+pub record Paired (bits queue : List ℕ) (head tail low high : ℕ) (before : List ℕ) (at : ℕ) (after : List ℕ) (h k base rest : ℕ) : Type 0 where
+  pub t : ℕ
+  pub left : Left bits queue head tail low high before at after h t k
+  pub walking : Walking bits t base rest
+
+module _ {bits queue : List ℕ} {head tail low high : ℕ} {before : List ℕ} {at : ℕ} where
+  -- the walk starts at the rack's first slot
+  pub paired-all : head ≤ tail → low ≤ high → high ≤ 4096 → Topped bits
+      → Paired bits queue head tail low high before at before head at low (getD bits (low / 64) 0 / 2 ^ (low % 64))
+  paired-all l m i p = record { t = low; left = left-all l m; walking = walk-from p low (omega arith) }
+
+  module _ {after : List ℕ} {h k base rest : ℕ} (l : Paired bits queue head tail low high before at after h k base rest) where
+    -- it goes on
+    module _ {base′ rest′ : ℕ} (w : Walked bits high base rest base′ rest′) where
+      on : Walking bits (l .t) base′ rest′
+      on = w .kept (l .t) (l .walking)
+
+      -- it begins no further than behind the last slot
+      pub paired-few : base′ ≤ 4096
+      paired-few = on .few
+
+      -- nothing is left of it: no slot of the rack is
+      pub paired-over : rest′ ≡ 0 → Written (served bits queue head tail low high) before at after (h - head)
+      paired-over e = left-over (l .left) (w .none (l .t) (l .walking) e)
+
+      -- b is the first bit that is left
+      module _ {b : ℕ} (o : Next (bitOn rest′) 0 64 b) (f : b < 64) (j : high ≤ 4096) where
+        -- its slot lies behind the rack
+        pub paired-full : high ≤ base′ + b → Written (served bits queue head tail low high) before at after (h - head)
+        paired-full m = left-full (l .left) (walk-next on o f (omega (arith, l .left .t-in)) refl) (omega arith)
+
+        -- its slot lies in the rack, and a card is left
+        module _ (m : h < tail) (q : tail ≤ length queue) (i : base′ + b < high) where
+          slot : Next (isOn bits) (l .t) 4096 (base′ + b)
+          slot = walk-next on o f (omega (arith, l .left .t-in)) (omega arith)
+
+          -- one pair more fits the list
+          pub paired-room : at + 2 * length (served bits queue head tail low high) ≤ length before → k + 2 ≤ length after
+          paired-room r = left-room (l .left) slot m q i j r
+
+          -- they are the next pair
+          pub paired-more : {rest″ : ℕ} → rest″ ≡ turnedOff rest′ b
+              → Paired bits queue head tail low high before at (set (set after k (getD queue h 0)) (k + 1) (base′ + b)) (h + 1) (k + 2) base′ rest″
+          paired-more e = record { t = base′ + b + 1; left = left-more (l .left) slot m q i j; walking = rw e (walk-more on o f) }

@@ -17,7 +17,7 @@ pub fn smaller(x: usize, y: usize) -> usize
 }
 
 // Writes the pairs of one target, a rack from slot `low` up to `high`, from `at` on, two numbers each, and says how many they are: its cards
-// take its free slots, each found from the one before it in a few steps wherever it lies.
+// take its free slots, which a walk over their bits finds.
 pub fn plan_rack(
     queue: &[u16; 4096],
     head: usize,
@@ -33,18 +33,25 @@ pub fn plan_rack(
     ensures { λ r. ⌜ Written (served (now (bits .entry)) (now (queue .entry)) head tail low high) (now (pairs .entry)) at (now (pairs .exit)) r ⌝ }
 {
     let mut h = head;
-    let mut t = low;
     let mut k = at;
+    let mut base = low;
+    let mut rest = bits[low / 64] >> (low % 64);
     while h < tail {
-        t = bits::parts::next_marked(bits, t);
+        let walk = bits::parts::walk_on(bits, base, rest, high);
+        if walk.rest == 0 {
+            return h - head;
+        }
+        let b = bits::parts::next_on(walk.rest, 0);
+        let t = walk.at + b;
         if high <= t {
             return h - head;
         }
         pairs[k] = queue[h];
         pairs[k + 1] = t as u16;
         h = h + 1;
-        t = t + 1;
         k = k + 2;
+        base = walk.at;
+        rest = bits::parts::turn_off(walk.rest, b);
     }
     tail - head
 }
