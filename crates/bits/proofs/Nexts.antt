@@ -1,12 +1,11 @@
--- The next bit of a word, and the next number of a set: what each way through the code gives. Assumes nothing.
-use mathlib.Core.Path.{_≡_, refl, sym, ap, _∙_}
-use mathlib.Core.Bool.{Bool, true, false, not}
+-- The next bit of a word, what each way through the code gives; and a number of a set by its word. Assumes nothing.
+use mathlib.Core.Path.{_≡_, sym, ap, _∙_}
+use mathlib.Core.Bool.{Bool, true, false}
 use mathlib.Core.List.{List}
-use Prim.Native.Nat.{ℕ, _+_, _-_, _*_, _/_, _%_, _^_, _≤_, _<_}
+use Prim.Native.Nat.{ℕ, _+_, _-_, _/_, _%_, _^_, _≤_, _<_}
 use native.Mathlib.Nat.{lt-of-le-of-lt}
 use native.Mathlib.Omega.{arith}
-use native.Mathlib.Decide.{ℕ-discrete, decLt, decLe}
-use lib.Dec.{eqb}
+use native.Mathlib.Decide.{decLe}
 use lib.ListN.{getD}
 use lib.Pow.{shr-le}
 use lib.Count.{trailingZeros, trailing-le}
@@ -14,7 +13,7 @@ use borrow.Author.Tests.{eqb-true}
 use Rattle.counting.proofs.Tests.{no-way, not-off-is}
 use Rattle.bits.specs.Bits.{bitOn, isOn, Topped, Next}
 use Rattle.bits.proofs.Words.{bit-none, bit-shift}
-use Rattle.bits.proofs.Trailing.{trailing-below, trailing-hit, trailing-lt, all-off, bit-over}
+use Rattle.bits.proofs.Trailing.{trailing-below, trailing-hit, trailing-lt, bit-over}
 
 -- from the end on there is none
 pub next-end : (test : ℕ → Bool) (low high : ℕ) → low ≡ high → Next test low high high
@@ -85,63 +84,3 @@ pub top-off : {words : List ℕ} → Topped words → (w j : ℕ) → w < 64 →
 top-off {words} t w j l f =
     let z : getD words w 0 ≡ 0 = eqb-true (getD words w 0) 0 (not-off-is (sym (t .tops w l) ∙ f)) in
     ap (λ (x : ℕ). bitOn x j) z ∙ bit-none j
-
-module _ (words : List ℕ) (g b : ℕ) (h : g < 4096) (n : Next (bitOn (getD words (g / 64) 0)) (g % 64) 64 b) where
-  -- before the bit that is next in g's own word no number is in the set
-  own-passed : (k : ℕ) → g ≤ k → k < g / 64 * 64 + b → isOn words k ≡ false
-  own-passed k l m =
-      let q : k / 64 ≡ g / 64 = omega (arith, n .within) in
-      is-on-at words k (g / 64) (k % 64) q refl ∙ n .passed (k % 64) (omega arith) (omega (arith, n .within))
-
-  -- that bit is the next number, where there is one
-  pub next-own : b < 64 → Next (isOn words) g 4096 (g / 64 * 64 + b)
-  next-own l = record {
-    up = omega (arith, n .up);
-    within = omega arith;
-    passed = own-passed;
-    hit = λ m. is-on-at words (g / 64 * 64 + b) (g / 64) b (omega arith) (omega arith) ∙ n .hit l;
-  }
-
-  module _ (t : Topped words) (e : 64 ≤ b) (v : ℕ) (m : Next (bitOn (getD words 64 0)) (g / 64 + 1) 64 v) where
-    -- before the next word that has one no number is in the set
-    later-passed : (k : ℕ) → g ≤ k → k < v * 64 → isOn words k ≡ false
-    later-passed k l p = elim (ℕ-discrete (k / 64) (g / 64)) [
-      | yes q ↦ own-passed k l (omega (arith, n .within))
-      | no q ↦ is-on-at words k (k / 64) (k % 64) refl refl
-          ∙ top-off t (k / 64) (k % 64) (omega (arith, m .within)) (m .passed (k / 64) (omega arith) (omega arith))
-    ]
-
-    -- no word behind g's own has one
-    pub next-no-word : v ≡ 64 → Next (isOn words) g 4096 4096
-    next-no-word q = record {
-      up = omega arith;
-      within = omega arith;
-      passed = λ k l p. later-passed k l (omega arith);
-      hit = λ l. absurd (omega arith);
-    }
-
-    module _ (f : v < 64) (b′ : ℕ) (n′ : Next (bitOn (getD words v 0)) 0 64 b′) where
-      -- a word whose bit in the last one is on has a bit on
-      pub later-within : b′ < 64
-      later-within = elim (decLt b′ 64) [
-        | yes l ↦ l
-        | no l ↦
-            let z : getD words v 0 ≡ 0 = all-off 64 (getD words v 0) (t .small v) (λ j p. n′ .passed j (omega arith) (omega (arith, n′ .within))) in
-            absurd (no-way (sym (t .tops v f) ∙ m .hit f) (ap (λ (x : ℕ). not (eqb x 0)) z))
-      ]
-
-      -- and its lowest is the next number
-      pub next-later : Next (isOn words) g 4096 (v * 64 + b′)
-      next-later = record {
-        up = omega (arith, m .up);
-        within = omega (arith, later-within);
-        passed = λ k l p. elim (decLt k (v * 64)) [
-          | yes q ↦ later-passed k l q
-          | no q ↦
-              let a : k / 64 ≡ v = omega (arith, later-within) in
-              is-on-at words k v (k % 64) a refl ∙ n′ .passed (k % 64) (omega arith) (omega (arith, later-within))
-        ];
-        hit = λ p.
-            is-on-at words (v * 64 + b′) v b′ (omega (arith, later-within)) (omega (arith, later-within))
-            ∙ n′ .hit later-within;
-      }

@@ -10,7 +10,7 @@ use lib.Arith.{digits-div, digits-mod}
 use lib.Bits.{bitAnd, bitOr, bitXor, differ, or-step, and-step, xor-step, or-shr, and-shr, xor-shr, shifted-even, or-lt, xor-lt, and-le-l}
 use lib.Pow.{pow-pos, pow-lt, pow-add, shl-shr, shr-shr, ones-split, ones-lt, high}
 use Rattle.counting.specs.Tests.{bit}
-use Rattle.bits.specs.Bits.{bitOn, turnedOn, turnedOff}
+use Rattle.bits.specs.Bits.{bitOn, ALL, turnedOn, turnedOff}
 
 -- the lowest digit of `or` is the greater of the two lowest digits
 or-low : (a c : ℕ) → bitOr a c % 2 ≡ max (a % 2) (c % 2)
@@ -83,8 +83,8 @@ pub bit-none : (b : ℕ) → bitOn 0 b ≡ false
 unfolding bitOn
 bit-none b = ap (λ (x : ℕ). eqb (x % 2) 1) (div-eq-of-lt (pow-pos b))
 
--- the greatest word has all of them on
-pub bit-all : (b : ℕ) → b < 64 → bitOn 18446744073709551615 b ≡ true
+-- the word with every bit on has each of them on
+pub bit-all : (b : ℕ) → b < 64 → bitOn ALL b ≡ true
 unfolding bitOn
 bit-all b h =
     let i = 63 - b in

@@ -13,6 +13,10 @@ use Rattle.counting.specs.Tests.{pick}
 unfoldable pub bitOn : ℕ → ℕ → Bool
 bitOn word b = eqb (word / 2 ^ b % 2) 1
 
+-- the word with every bit on
+abbrev pub ALL : ℕ
+ALL = 18446744073709551615
+
 -- a word with bit b on
 unfoldable pub turnedOn : ℕ → ℕ → ℕ
 turnedOn word b = bitOr word (2 ^ b)

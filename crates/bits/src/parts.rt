@@ -2,7 +2,7 @@
 ghost use mathlib.Core.Path.{_≡_};
 ghost use Prim.Native.Nat.{_≤_, _<_};
 ghost use lib.ListN.{length};
-ghost use Rattle.bits.specs.Bits.{bitOn, turnedOn, turnedOff, isOn, marked, filled, cleared, Topped, Next, Walked};
+ghost use Rattle.bits.specs.Bits.{bitOn, turnedOn, turnedOff, marked, filled, cleared, Topped, Next, Walked};
 
 // The first bit of a word from bit s up that is on; 64 where none is.
 pub fn next_on(word: u64, s: usize) -> usize
@@ -67,26 +67,6 @@ pub fn clear(words: &mut [u64; 65], g: usize)
     if word == 0 {
         words[64] = turn_off(words[64], w);
     }
-}
-
-// The first number of the set from g up, 4,096 where there is none: in g's own word, else in the first word behind it that has a bit on.
-pub fn next_marked(words: &[u64; 65], g: usize) -> usize
-    requires { ⌜ (g ≤ 4096) × Topped (now words) ⌝ }
-    ensures { λ r. ⌜ Next (isOn (now (words .entry))) g 4096 r ⌝ }
-{
-    if g == 4096 {
-        return 4096;
-    }
-    let w = g / 64;
-    let b = next_on(words[w], g % 64);
-    if b < 64 {
-        return w * 64 + b;
-    }
-    let v = next_on(words[64], w + 1);
-    if v == 64 {
-        return 4096;
-    }
-    v * 64 + next_on(words[v], 0)
 }
 
 // A walk over the set, word by word: bit k of what is left of a word is number at + k.

@@ -1,7 +1,6 @@
 // The engine that makes moves, phase by phase, as many as an allowance permits.
 ghost use mathlib.Core.Path.{_≡_};
-ghost use mathlib.Core.List.{List};
-ghost use Prim.Native.Nat.{ℕ, _*_, _≤_};
+ghost use Prim.Native.Nat.{_*_, _≤_};
 ghost use lib.ListN.{length};
 ghost use Rattle.counting.specs.Checks.{first};
 ghost use Rattle.racks.specs.Racks.{slots};

@@ -1,6 +1,6 @@
 // What the copy list puts together, and the shuffle after it: the cards that are away, the list in the library's own array.
 ghost use mathlib.Core.Path.{_≡_};
-ghost use Prim.Native.Nat.{_≤_, _<_};
+ghost use Prim.Native.Nat.{_<_};
 ghost use lib.ListN.{length};
 ghost use Rattle.counting.specs.Tests.{_or_};
 ghost use Rattle.copies.specs.Chains.{Chained};

@@ -15,6 +15,7 @@ use Rattle.racks.proofs.Geometry.{base-mono, end-le}
 use Rattle.racks.proofs.Jobs.{sound-few, sound-ends}
 use Rattle.racks.proofs.LegalTable.{legal}
 use Rattle.tables.specs.Tables.{Filled}
+use Rattle.bits.specs.Bits.{ALL}
 use Rattle.bits.proofs.Words.{bit-all}
 use Rattle.queues.specs.Queues.{rowsOf}
 use Rattle.queues.specs.Queued.{Firsts}
@@ -43,7 +44,7 @@ module _ (racks : List Rack) (places table : List ℕ) (t : Tabled racks places 
 
   -- the rows after all slots, with every rack's bit on
   pub queues-ready : (queue first tails last bits : List ℕ) → Firsts racks first → Queueing racks places (slots racks) queue tails → Lasts racks last
-      → Opened places bits → Ready racks places (rowsOf queue first tails first last bits 18446744073709551615)
+      → Opened places bits → Ready racks places (rowsOf queue first tails first last bits ALL)
   queues-ready queue first tails last bits f q e c =
       record {
         bounded =

@@ -1,7 +1,6 @@
 // What the slot question puts together.
 ghost use mathlib.Core.Path.{_≡_};
-ghost use mathlib.Core.List.{List};
-ghost use Prim.Native.Nat.{ℕ, _<_};
+ghost use Prim.Native.Nat.{_<_};
 ghost use lib.ListN.{length};
 ghost use Rattle.counting.specs.Checks.{first};
 ghost use Rattle.racks.specs.Racks.{isUser};

@@ -1,8 +1,7 @@
 // What the layers above share: each slot's rack in a table of bytes, and the number of a lent table.
 ghost use mathlib.Core.Path.{_≡_};
-ghost use mathlib.Core.List.{List};
 ghost use mathlib.Core.Bool.{true};
-ghost use Prim.Native.Nat.{ℕ, _≤_, _<_};
+ghost use Prim.Native.Nat.{_≤_, _<_};
 ghost use lib.ListN.{length};
 ghost use Rattle.racks.specs.Job.{racksOf, Sound};
 ghost use Rattle.tables.specs.Tables.{namedSlot, Laid, Marked, Between, Checked, CardsChecked};

@@ -1,5 +1,4 @@
 // Slots and arrows, written into a lent buffer.
-ghost use mathlib.Core.Path.{_≡_};
 ghost use Prim.Native.Nat.{_≤_};
 ghost use lib.ListN.{length};
 ghost use Rattle.counting.specs.Lists.{join, each};

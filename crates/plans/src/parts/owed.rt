@@ -1,7 +1,6 @@
 // What racks owe, counted into a flat table of 64 by 64 counts, and how many pairs a phase has by the grants of each rack.
 ghost use mathlib.Core.Path.{_≡_};
-ghost use mathlib.Core.List.{List};
-ghost use Prim.Native.Nat.{ℕ, _≤_, _<_};
+ghost use Prim.Native.Nat.{_≤_, _<_};
 ghost use lib.ListN.{length};
 ghost use Rattle.counting.specs.Checks.{first};
 ghost use Rattle.racks.specs.Numbers.{tableChecks};

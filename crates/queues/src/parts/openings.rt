@@ -1,5 +1,4 @@
 // The free slots of a table as a set of bits, found word by word.
-ghost use mathlib.Core.Path.{_≡_};
 ghost use Prim.Native.Nat.{_+_, _≤_};
 ghost use lib.ListN.{length};
 ghost use Rattle.queues.specs.Openings.{Word, Opened};

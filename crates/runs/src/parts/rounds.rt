@@ -1,5 +1,4 @@
 // Phases until nothing is awaited.
-ghost use mathlib.Core.Path.{_≡_};
 ghost use Rattle.racks.specs.Job.{racksOf};
 ghost use Rattle.queues.specs.Queues.{rowsOf};
 ghost use Rattle.moves.specs.Parts.{held};

@@ -2,7 +2,7 @@
 ghost use mathlib.Core.Path.{_≡_};
 ghost use Prim.Native.Nat.{_+_, _*_, _≤_};
 ghost use lib.ListN.{length, take};
-ghost use Rattle.moves.specs.Blocks.{block, putBlock, blank};
+ghost use Rattle.moves.specs.Blocks.{block, putBlock};
 ghost use Rattle.shuffle.specs.Hands.{handed, copyMade, Reached, HandedAs};
 use racks::Job;
 
