@@ -2,7 +2,7 @@
 ghost use mathlib.Core.Path.{_≡_};
 ghost use Prim.Native.Nat.{_≤_, _<_};
 ghost use lib.ListN.{length};
-ghost use Rattle.bits.specs.Bits.{bitOn, turnedOn, turnedOff, marked, filled, cleared, Topped, Next, Walked};
+ghost use Rattle.bits.specs.Bits.{bitOn, turnedOn, turnedOff, marked, filled, cleared, Topped, Next, Walking, Walked};
 
 // The first bit of a word from bit s up that is on; 64 where none is.
 pub fn next_on(word: u64, s: usize) -> usize
@@ -73,6 +73,14 @@ pub fn clear(words: &mut [u64; 65], g: usize)
 pub struct Walk {
     pub at: usize,
     pub rest: u64,
+}
+
+// A walk starts at any number, with what its word has from there up.
+pub fn walk_from(words: &[u64; 65], low: usize) -> u64
+    requires { ⌜ (low ≤ 4096) × Topped (now words) ⌝ }
+    ensures { λ r. ⌜ Walking (now (words .entry)) low low r ⌝ }
+{
+    words[low / 64] >> (low % 64)
 }
 
 // A walk goes on: where nothing of the word is left, to the next that has a bit on, if it begins below `high`.

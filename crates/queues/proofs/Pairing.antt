@@ -2,7 +2,7 @@
 use mathlib.Core.Path.{_≡_, refl}
 use mathlib.Core.Bool.{false}
 use mathlib.Core.List.{List, [], _∷_}
-use Prim.Native.Nat.{ℕ, _+_, _*_, _-_, _/_, _%_, _^_, _≤_, _<_}
+use Prim.Native.Nat.{ℕ, _+_, _*_, _-_, _≤_, _<_}
 use native.Mathlib.Omega.{arith}
 use native.Mathlib.Numerals.{add-one}
 use lib.ListN.{length, getD, set, length-set}
@@ -10,8 +10,8 @@ use lib.Seq.{sets, slice-empty, slice-cons, length-slice}
 use Rattle.counting.specs.Lists.{pairUp, flat}
 use Rattle.counting.proofs.Pairs.{length-pairUp, pairUp-nil}
 use Rattle.counting.proofs.Stores.{sets-flat-none, sets-flat-more}
-use Rattle.bits.specs.Bits.{bitOn, turnedOff, isOn, Topped, Next, Walking, Walked}
-use Rattle.bits.proofs.Walks.{walk-from, walk-next, walk-more}
+use Rattle.bits.specs.Bits.{bitOn, turnedOff, isOn, Next, Walking, Walked}
+use Rattle.bits.proofs.Walks.{walk-next, walk-more}
 use Rattle.queues.specs.Queues.{opens, part, served, Written}
 use Rattle.queues.proofs.Opens.{open-over, open-none, open-first}
 
@@ -117,9 +117,8 @@ pub record Paired (bits queue : List ℕ) (head tail low high : ℕ) (before : L
 
 module _ {bits queue : List ℕ} {head tail low high : ℕ} {before : List ℕ} {at : ℕ} where
   -- the walk starts at the rack's first slot
-  pub paired-all : head ≤ tail → low ≤ high → high ≤ 4096 → Topped bits
-      → Paired bits queue head tail low high before at before head at low (getD bits (low / 64) 0 / 2 ^ (low % 64))
-  paired-all l m i p = record { t = low; left = left-all l m; walking = walk-from p low (omega arith) }
+  pub paired-all : head ≤ tail → low ≤ high → {rest : ℕ} → Walking bits low low rest → Paired bits queue head tail low high before at before head at low rest
+  paired-all l m w = record { t = low; left = left-all l m; walking = w }
 
   module _ {after : List ℕ} {h k base rest : ℕ} (l : Paired bits queue head tail low high before at after h k base rest) where
     -- it goes on

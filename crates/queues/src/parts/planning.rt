@@ -35,7 +35,7 @@ pub fn plan_rack(
     let mut h = head;
     let mut k = at;
     let mut base = low;
-    let mut rest = bits[low / 64] >> (low % 64);
+    let mut rest = bits::parts::walk_from(bits, low);
     while h < tail {
         let walk = bits::parts::walk_on(bits, base, rest, high);
         if walk.rest == 0 {
@@ -68,8 +68,8 @@ fn stop_waiting(waiting: &mut u64, p: usize, more: bool)
 }
 
 // Plans a phase of n racks: its pairs from the front of the list, by target rack, and how many they are. Only racks that wait are visited,
-// each taken out of a word of those still to be visited.
-// Each queue then begins behind the cards that it sends, and a rack whose queue is used up waits no more.
+// each taken out of a word of those still to be visited. Each queue then begins behind the cards that it sends, and a rack whose queue is
+// used up waits no more.
 pub fn plan_phase(
     n: usize,
     queue: &[u16; 4096],

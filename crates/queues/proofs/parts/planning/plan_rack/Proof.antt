@@ -23,17 +23,11 @@ room c =
     let s = c .before .before .before .before .before .before .before .before .before .before in
     paired-room (c .before .before .before .before .before .before .before .loop .inv) (c .before .before .before .before .before .walk-on .ensures) (c .before .before .next-on .ensures) (bit (c .before .before)) (omega arith) (omega arith) (omega arith) (omega arith) (s .pre .1)
 
-mul-rest : tie.Need-mul-rest Inv-loop μ-loop
-mul-rest c = omega arith
-
-element-copy-out-rest : tie.Need-element-copy-out-rest Inv-loop μ-loop
-element-copy-out-rest c = omega arith
-
-shr-rest : tie.Need-shr-rest Inv-loop μ-loop
-shr-rest c = omega arith
+walk-from-requires : tie.Need-walk-from-requires Inv-loop μ-loop
+walk-from-requires c κs = let s = c .before in (omega arith, s .pre .0 .5)
 
 loop-holds : tie.Need-loop-holds Inv-loop μ-loop
-loop-holds c = let s = c .before .before in paired-all (s .pre .0 .0) (s .pre .0 .3) (s .pre .0 .4) (s .pre .0 .5)
+loop-holds c = let s = c .before .before in paired-all (s .pre .0 .0) (s .pre .0 .3) (c .walk-from .ensures)
 
 walk-on-requires : tie.Need-walk-on-requires Inv-loop μ-loop
 walk-on-requires c κs = let s = c .before .before .before .before in (c .before .loop .inv .walking .few, s .pre .0 .4, s .pre .0 .5)
@@ -117,9 +111,7 @@ plan-rack-spec =
     (tie.spec
     Inv-loop
     μ-loop
-    mul-rest
-    element-copy-out-rest
-    shr-rest
+    walk-from-requires
     loop-holds
     walk-on-requires
     sub-result
