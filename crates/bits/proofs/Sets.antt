@@ -1,8 +1,8 @@
 -- Laws of a set of numbers below 4,096: one marked, one cleared, every other as it was, and the last word kept right. Assumes nothing.
-use mathlib.Core.Path.{_≡_, refl, sym, ap, _∙_}
+use mathlib.Core.Path.{_≡_, sym, ap, _∙_}
 use mathlib.Core.Bool.{true, false, not}
 use mathlib.Core.List.{List}
-use Prim.Native.Nat.{ℕ, zero, suc, _/_, _%_, _<_}
+use Prim.Native.Nat.{ℕ, _/_, _%_, _<_}
 use native.Mathlib.Nat.{le-of-eq, lt-of-le-of-lt}
 use native.Mathlib.Omega.{arith}
 use native.Mathlib.Decide.{ℕ-discrete}
@@ -12,6 +12,7 @@ use lib.Pow.{pow-pos}
 use lib.Seq.{getD-set-same, getD-set-other}
 use borrow.Author.Tests.{eq-eqb, ne-eqb, eqb-false}
 use Rattle.counting.proofs.Tests.{by-test}
+use Rattle.counting.proofs.Lists.{zeros}
 use Rattle.bits.specs.Bits.{bitOn, turnedOn, turnedOff, isOn, marked, cleared, Topped}
 use Rattle.bits.proofs.Words.{bit-none, turned-on-here, turned-on-other, turned-off-here, turned-off-none, turned-off-other, turned-on-lt, turned-off-lt, not-none}
 
@@ -25,23 +26,17 @@ bit-lt g = omega arith
 same-number : (k g : ℕ) → k / 64 ≡ g / 64 → k % 64 ≡ g % 64 → k ≡ g
 same-number k g e f = omega arith
 
--- in a list of zeros each is 0, and so is what lies behind its end
-zeros-at : (n v : ℕ) → getD (replicate {A = ℕ} n 0) v 0 ≡ 0
-zeros-at zero v = refl
-zeros-at (suc n) zero = refl
-zeros-at (suc n) (suc v) = zeros-at n v
-
 -- the empty set has no number
 pub is-none : (g : ℕ) → isOn (replicate 65 0) g ≡ false
 unfolding isOn
-is-none g = ap (λ (x : ℕ). bitOn x (g % 64)) (zeros-at 65 (g / 64)) ∙ bit-none (g % 64)
+is-none g = ap (λ (x : ℕ). bitOn x (g % 64)) (zeros 65 (g / 64)) ∙ bit-none (g % 64)
 
 -- and its last word says so of each word
 pub topped-none : Topped (replicate 65 0)
 topped-none = record {
   long = length-replicate {A = ℕ} 65 0;
-  small = λ w. lt-of-le-of-lt (le-of-eq (zeros-at 65 w)) (pow-pos 64);
-  tops = λ w h. bit-none w ∙ ap (λ (x : ℕ). not (eqb x 0)) (sym (zeros-at 65 w));
+  small = λ w. lt-of-le-of-lt (le-of-eq (zeros 65 w)) (pow-pos 64);
+  tops = λ w h. bit-none w ∙ ap (λ (x : ℕ). not (eqb x 0)) (sym (zeros 65 w));
 }
 
 -- a set has as many words as before

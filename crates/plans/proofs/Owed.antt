@@ -12,6 +12,7 @@ use Rattle.counting.specs.Tests.{bit}
 use Rattle.counting.specs.Count.{count}
 use Rattle.counting.proofs.Tests.{off}
 use Rattle.counting.proofs.Count.{count-none}
+use Rattle.counting.proofs.Lists.{zeros}
 use Rattle.racks.specs.Limits.{FREE}
 use Rattle.racks.specs.Racks.{Rack, slots, rackOf}
 use Rattle.racks.specs.Table.{dest, free, rackTo, away, bound, owes}
@@ -19,7 +20,7 @@ use Rattle.racks.specs.Legal.{Legal}
 use Rattle.racks.proofs.Away.{away-held, to-away, to-rack, to-is, bound-on, bound-off}
 use Rattle.tables.specs.Tables.{namedSlot, target, awayBy, Filled}
 use Rattle.tables.proofs.Targets.{at-target, at-away, here-lt, target-is, target-lt, named-lt, away-by}
-use Rattle.queues.proofs.Counts.{zeros, more-by, one-count, one-few, one-long}
+use Rattle.queues.proofs.Counts.{more-by, one-count, one-few, one-long}
 use Rattle.plans.specs.Owed.{cell, Tallied, owesWith, roomsWith, Counted, Countable}
 use Rattle.plans.proofs.Rooms.{RoomsTo, rooms-none, rooms-all, rooms-more}
 

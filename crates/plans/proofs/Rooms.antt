@@ -8,13 +8,14 @@ use lib.ListN.{length, getD, replicate, length-replicate}
 use Rattle.counting.specs.Count.{count}
 use Rattle.counting.proofs.Tests.{off}
 use Rattle.counting.proofs.Count.{count-none}
+use Rattle.counting.proofs.Lists.{zeros}
 use Rattle.racks.specs.Racks.{Rack, slots}
 use Rattle.racks.specs.Table.{free, freeOn}
 use Rattle.racks.proofs.Geometry.{rack-lt}
 use Rattle.racks.proofs.Away.{on-free, on-rack, on-is}
 use Rattle.tables.specs.Tables.{Filled}
 use Rattle.phases.specs.Plan.{room}
-use Rattle.queues.proofs.Counts.{zeros, one-count, one-few, one-long}
+use Rattle.queues.proofs.Counts.{one-count, one-few, one-long}
 use Rattle.plans.specs.Owed.{Roomy, roomsWith}
 
 -- the free slots of each rack among the first g slots

@@ -5,21 +5,14 @@ use mathlib.Core.Logic.{_≢_}
 use mathlib.Core.List.{List}
 use Prim.Native.Nat.{ℕ, _+_, _≤_, _<_}
 use native.Mathlib.Omega.{arith}
-use native.Mathlib.Decide.{ℕ-discrete, decLt}
-use lib.ListN.{length, getD, set, length-set, replicate, getD-replicate, length-replicate, List·getD-eq-default}
+use native.Mathlib.Decide.{ℕ-discrete}
+use lib.ListN.{length, getD, set, length-set}
 use lib.Seq.{getD-set-same, getD-set-other, set-getD}
 use Rattle.counting.specs.Tests.{bit, pick}
 use Rattle.counting.specs.Count.{count}
 use Rattle.counting.proofs.Tests.{by-test, no-way}
 use Rattle.counting.proofs.Count.{count-on, count-off}
 use Rattle.queues.specs.Queued.{oneMore}
-
--- a list of zeros has 0 everywhere, and behind it
-pub zeros : (n k : ℕ) → getD {A = ℕ} (replicate n 0) k 0 ≡ 0
-zeros n k = elim (decLt k n) [
-  | yes l ↦ getD-replicate n k 0 0 l
-  | no l ↦ List·getD-eq-default (replicate n 0) 0 (omega (arith, length-replicate {A = ℕ} n 0))
-]
 
 -- to add 0 or 1 by a test is to add one where it passes
 pub more-by : (test : Bool) (k : ℕ) (l : List ℕ) → set l k (getD l k 0 + bit test) ≡ pick test (oneMore l k) l

@@ -9,14 +9,14 @@ use native.Mathlib.Decide.{ℕ-discrete}
 use lib.ListN.{length, getD, replicate}
 use lib.Pow.{pow-pos, pow-mono}
 use Rattle.counting.specs.Tests.{bit}
+use Rattle.counting.proofs.Tests.{bit-le}
+use Rattle.counting.proofs.Lists.{zeros}
 use Rattle.racks.specs.Table.{free}
 use Rattle.bits.specs.Bits.{bitOn, isOn, filled, Topped}
 use Rattle.bits.proofs.Words.{bit-none, doubled-low, doubled-up}
 use Rattle.bits.proofs.Sets.{topped-none}
 use Rattle.bits.proofs.Fills.{filled-here, filled-other, filled-else, topped-filled}
 use Rattle.queues.specs.Openings.{Word, Opened}
-use Rattle.queues.proofs.Counts.{zeros}
-use Rattle.queues.proofs.QueueSlot.{bit-le}
 
 module _ (places : List ℕ) (high : ℕ) where
   -- a word of no slots

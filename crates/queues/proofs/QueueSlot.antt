@@ -1,9 +1,8 @@
 -- One slot of the pass, as the code makes it without a branch: what it needs, and what it does. Assumes nothing.
 use mathlib.Core.Path.{_≡_}
-use mathlib.Core.Bool.{Bool, true, false, not}
+use mathlib.Core.Bool.{not}
 use mathlib.Core.List.{List}
-use Prim.Native.Nat.{ℕ, _+_, _≤_, _<_}
-use native.Mathlib.Omega.{arith}
+use Prim.Native.Nat.{ℕ, _+_, _<_}
 use lib.Dec.{eqb}
 use lib.ListN.{getD, set}
 use Rattle.counting.specs.Tests.{bit}
@@ -12,11 +11,6 @@ use Rattle.tables.specs.Tables.{namedSlot, target, awayBy}
 use Rattle.tables.proofs.Targets.{at-target, at-away}
 use Rattle.queues.specs.Queued.{queued, tailed, Queueable, Queued}
 use Rattle.queues.proofs.Counts.{more-by}
-
--- what a test adds is at most 1
-pub bit-le : (x : ℕ) (b : Bool) → x ≡ bit b → x ≤ 1
-bit-le x true e = omega arith
-bit-le x false e = omega arith
 
 -- n is the slot that slot g's entry names
 module _ (table places : List ℕ) (g n : ℕ) (en : n ≡ namedSlot g (dest places g)) where

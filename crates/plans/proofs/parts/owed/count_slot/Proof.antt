@@ -5,7 +5,7 @@ use lib.Dec.{eqb}
 use lib.ListN.{getD}
 use Rattle.racks.specs.Limits.{FREE}
 use Rattle.racks.specs.Table.{dest}
-use Rattle.queues.proofs.QueueSlot.{bit-le}
+use Rattle.counting.proofs.Tests.{bit-le}
 use Rattle.plans.specs.Owed.{cell}
 use Rattle.plans.proofs.Owed.{slot-racked, slot-cell, counted-slot}
 use Rattle.plans.proofs.parts.owed.count_slot.Statement.{statement}

@@ -3,7 +3,8 @@ use native.Mathlib.Omega.{arith}
 use mathlib.Core.Bool.{not}
 use lib.Dec.{eqb}
 use lib.ListN.{getD}
-use Rattle.queues.proofs.QueueSlot.{bit-le, slot-racked, slot-fits, queued-slot}
+use Rattle.counting.proofs.Tests.{bit-le}
+use Rattle.queues.proofs.QueueSlot.{slot-racked, slot-fits, queued-slot}
 use Rattle.queues.proofs.parts.arrivals.queue_slot.Statement.{statement}
 use Rattle.queues.proofs.parts.arrivals.queue_slot.Tie as tie
 
