@@ -27,15 +27,11 @@ use Rattle.queues.specs.Ready.{Ready}
 use Rattle.queues.proofs.Ready.{ready-bounded, ready-count}
 use Rattle.moves.specs.Moves.{carriedPlaces, carriedCards, Held, carried}
 use Rattle.moves.specs.Phases.{budget}
-use Rattle.moves.proofs.Carry.{InTurn, in-turn-take, legal-carried, aways-carried, places-append, cards-append, length-carried-cards}
+use Rattle.moves.proofs.Carry.{InTurn, in-turn-take, legal-carried, aways-carried, length-carried-cards, carried-append}
 use Rattle.moves.proofs.Phases.{aways-none, budget-none, budget-step}
 use Rattle.moves.proofs.FirstFit.{first-fit}
 use Rattle.budgets.specs.Engine.{Runnable, PhaseRun, Going, Made}
 use Rattle.budgets.proofs.NextPhase.{plan-in-turn, ready-next}
-
--- moves and further moves
-carried-append : (b : ℕ) (ms ns : List Pair) (h : Held) → carried b (ms ++ ns) h ≡ carried b ns (carried b ms h)
-carried-append b ms ns h = rw (places-append ms ns (h .places), cards-append b ms ns (h .cards))
 
 -- no allowance, no moves
 budget-zero : (racks : List Rack) (places : List ℕ) → budget racks 0 places ≡ []

@@ -1,13 +1,12 @@
 -- Which cards are away, by the table of each slot's rack. Assumes nothing.
-use mathlib.Core.Path.{_≡_, refl, sym, ap, _∙_}
+use mathlib.Core.Path.{_≡_, sym, ap, _∙_}
 use mathlib.Core.Bool.{Bool}
 use mathlib.Core.List.{List}
-use Prim.Native.Nat.{ℕ, zero, suc, _+_, _<_}
-use native.Mathlib.Omega.{arith}
+use Prim.Native.Nat.{ℕ, _+_}
 use lib.ListN.{length}
 use Rattle.counting.specs.Tests.{_or_}
 use Rattle.counting.specs.Count.{some}
-use Rattle.counting.proofs.Some.{some-more}
+use Rattle.counting.proofs.Some.{some-more, some-cong}
 use Rattle.racks.specs.Racks.{Rack, slots}
 use Rattle.racks.specs.Table.{away}
 use Rattle.racks.specs.Numbers.{someAway}
@@ -15,11 +14,6 @@ use Rattle.racks.specs.Legal.{Legal}
 use Rattle.tables.specs.Tables.{awayBy, Filled}
 use Rattle.tables.proofs.Targets.{away-by}
 use Rattle.copies.specs.Writes.{someAwayBy}
-
-some-cong : (n : ℕ) (f g : ℕ → Bool) → ((k : ℕ) → k < n → f k ≡ g k) → some n f ≡ some n g
-unfolding some
-some-cong zero f g h = refl
-some-cong (suc n) f g h = rw (some-cong n f g (λ k l. h k (omega arith)), h n (omega arith))
 
 module _ (table places : List ℕ) (g : ℕ) where
   -- one slot more

@@ -20,7 +20,8 @@ use Rattle.racks.specs.declared.Tally.{Tally}
 use Rattle.copies.specs.Copies.{copyList, copyChecks, copied}
 use Rattle.copies.specs.Writes.{putCopies, AllWritten}
 use Rattle.racks.specs.Answers.{listedOf}
-use Rattle.copies.proofs.Writing.{length-flat, take-front}
+use Rattle.counting.proofs.Stores.{length-flat}
+use Rattle.copies.proofs.Writing.{take-front}
 
 -- the numbers of a list that is written from the front
 pub front-flat : (places list after : List ℕ) (count n : ℕ) → AllWritten places list count after → n ≡ 2 * count → n ≤ length list → take n after ≡ flat (copyList places)

@@ -2,7 +2,7 @@
 use mathlib.Core.Path.{_≡_, refl, sym, ap, _∙_}
 use mathlib.Core.Logic.{_≢_, inl, inr}
 use mathlib.Core.Bool.{Bool, true, false, not}
-use mathlib.Core.List.{List, [], _∷_, _++_}
+use mathlib.Core.List.{List, [], _∷_}
 use Prim.Native.Nat.{ℕ, _+_, _<_}
 use native.Mathlib.Omega.{arith}
 use native.Mathlib.Decide.{ℕ-discrete}
@@ -12,6 +12,7 @@ use Rattle.counting.specs.Tests.{_and_, bit}
 use Rattle.counting.specs.Count.{count}
 use Rattle.counting.specs.Lists.{matching, among, last, join, each}
 use Rattle.counting.proofs.Tests.{by-test, both, and-off-l, and-off-r, not-off}
+use Rattle.counting.proofs.Lists.{matching-append}
 use Rattle.counting.proofs.Count.{count-zero, count-cong, count-change}
 use Rattle.racks.specs.Limits.{FREE}
 use Rattle.racks.specs.Table.{dest, free, settled}
@@ -25,12 +26,6 @@ use Rattle.copies.proofs.Factors.{Factored, factors-are, factors-once, 
 use Rattle.copies.proofs.Factors.Factored.{ended, began}
 use Rattle.copies.proofs.Costs.{length-shift, length-cycle, copies-shift, copies-cycle, cost-settled}
 use Rattle.copies.specs.Factors.{unsettled, turning}
-
-module _ {A : Type 0} (f : A → Bool) where
-  matching-append : (a b : List A) → matching f (a ++ b) ≡ matching f a + matching f b
-  unfolding matching
-  matching-append [] b = omega arith
-  matching-append (x ∷ a) b = omega (arith, matching-append a b)
 
 -- the members of a list without repeats that pass are as many as the numbers that are among it and pass
 matching-among : (f : ℕ → Bool) (n : ℕ) (l : List ℕ) → Distinct l → ((x : ℕ) → In x l → x < n) → matching f l ≡ count n (λ k. among k l and f k)

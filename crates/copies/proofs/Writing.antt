@@ -6,38 +6,22 @@ use Prim.Native.Nat.{ℕ, zero, suc, _+_, _-_, _*_, _≤_, _<_}
 use native.Mathlib.Omega.{arith}
 use native.Mathlib.Numerals.{add-one}
 use lib.ListN.{length, getD, take, drop, set, length-append}
-use lib.Seq.{sets, sets-eq, length-sets, take-suc, take-at, length-take-le}
+use lib.Seq.{sets, sets-eq, length-sets, take-at}
 use Rattle.counting.specs.Lists.{Pair, flat, last}
 use Rattle.racks.specs.Limits.{FREE, HAND}
 use Rattle.copies.specs.Copies.{next, source, onward, shift, cycle, copies}
 use Rattle.copies.specs.Chains.{Chained}
 use Rattle.copies.specs.Writes.{putCopies, steps, Inside, First, Written}
 use Rattle.counting.specs.Every.{In}
+use Rattle.counting.proofs.Stores.{length-flat, flat-append, sets-append, sets-take}
 use Rattle.copies.proofs.Walks.{Path}
 use Rattle.copies.proofs.Chains.{onward-low, onward-path, onward-ends, cycle-source, shift-ends}
 use Rattle.copies.proofs.Costs.{length-shift, copies-shift, copies-cycle}
 
--- two numbers a copy
-pub length-flat : (cs : List Pair) → length (flat cs) ≡ 2 * length cs
-unfolding flat
-length-flat [] = refl
-length-flat (c ∷ cs) = omega (arith, length-flat cs)
-
-flat-append : (a b : List Pair) → flat (a ++ b) ≡ flat a ++ flat b
-unfolding flat
-flat-append [] b = refl
-flat-append (c ∷ a) b = rw (flat-append a b)
-
--- numbers stored, and then others behind them
-pub sets-append : (l : List ℕ) (i : ℕ) (a b : List ℕ) → sets l i (a ++ b) ≡ sets (sets l i a) (i + length a) b
-sets-append l i [] b = let e : i + 0 ≡ i = omega arith in rw e
-sets-append l i (x ∷ a) b = let e : i + suc (length a) ≡ suc i + length a = omega arith in rw e (sets-append (set l i x) (suc i) a b)
-
 -- one more of the numbers to be stored
 pub sets-more : (src l now : List ℕ) (t i v : ℕ) → i < length src → v ≡ getD src i 0 → now ≡ sets l t (take i src) → set now (t + i) v ≡ sets l t (take (i + 1) src)
 sets-more src l now t i v h e p =
-    let m : t + length (take i src) ≡ t + i = omega (arith, length-take-le i src (omega arith)) in
-    rw (add-one i, take-suc src i 0 h, p, e) (sym (sets-append l t (take i src) (getD src i 0 ∷ []) ∙ rw m))
+    rw (p, e) (sym (sets-take src l t i h))
 
 -- numbers stored at the front
 pub take-front : (l vs : List ℕ) (n : ℕ) → length vs ≡ n → n ≤ length l → take n (sets l 0 vs) ≡ vs

@@ -17,7 +17,7 @@ use Rattle.racks.specs.Numbers.{cardChecks}
 use Rattle.racks.specs.Legal.{Legal, Spared}
 use Rattle.moves.specs.Moves.{Held, carriedPlaces, carriedCards, carried, endChecks, moveChecks, moved}
 use Rattle.moves.specs.Phases.{budgeted}
-use Rattle.moves.proofs.Carry.{InTurn, in-turn-append, legal-carried, places-append, cards-append, length-carried-cards}
+use Rattle.moves.proofs.Carry.{InTurn, in-turn-append, legal-carried, length-carried-cards, carried-append}
 use Rattle.moves.proofs.Carry.InTurn.{stop, next}
 use Rattle.moves.proofs.Ends.{ends-allowed}
 use Rattle.moves.proofs.Outcomes.{cards-marked}
@@ -26,10 +26,6 @@ use Rattle.moves.proofs.FirstFit.{first-fit}
 use Rattle.demands.specs.Calls.{Call, called, asks, makes, after, made, counted}
 use Rattle.demands.specs.Calls.Call.{single, atMost}
 use Rattle.demands.proofs.Acceptance.{accepted-legal, accepted-long, accepted-again}
-
--- the table and the cards after moves and further moves
-pub carried-append : (b : ℕ) (ms ns : List Pair) (h : Held) → carried b (ms ++ ns) h ≡ carried b ns (carried b ms h)
-carried-append b ms ns h = rw (places-append ms ns (h .places), cards-append b ms ns (h .cards))
 
 -- racks with a spare each, and a table with its cards that gets none of 1 to 6
 pub record Start (racks : List Rack) (b : ℕ) (h : Held) : Type 0 where

@@ -5,16 +5,14 @@ use Prim.Native.Nat.{ℕ, zero, suc, _-_, _<_}
 use native.Mathlib.Omega.{arith}
 use lib.ListN.{length, take, length-append}
 use lib.Seq.{take-nil}
-use borrow.Author.Tests.{eqb-true}
 use Rattle.counting.specs.Count.{select}
 use Rattle.counting.specs.Lists.{table, join}
-use Rattle.counting.proofs.Tests.{not-off-is}
 use Rattle.counting.proofs.Select.{length-select}
-use Rattle.counting.proofs.Lists.{take-append, take-min, join-more, join-select}
+use Rattle.counting.proofs.Lists.{take-append, take-min, join-more}
 use Rattle.racks.specs.Racks.{Rack, slots}
-use Rattle.racks.specs.Table.{awayTo, bound, owes}
-use Rattle.phases.specs.Plan.{other, sources, room, arrivals, planFor, plan}
-use Rattle.phases.proofs.Grants.{cardsFor, own-owes, sources-all, arrivals-are, plan-for-is}
+use Rattle.racks.specs.Table.{bound, owes}
+use Rattle.phases.specs.Plan.{room, arrivals, planFor, plan}
+use Rattle.phases.proofs.Grants.{cardsFor, own-owes, racks-all, arrivals-are, plan-for-is}
 use Rattle.demands.specs.Figure1.{r, recv, dueTo, received, figure1For, figure1, bySlotFor, bySlot}
 
 -- a list of length 0
@@ -54,13 +52,6 @@ module _ (racks : List Rack) (places : List ℕ) where
     unfolding cardsFor owes
     own-none = empty (select (slots racks) (bound racks places p p)) (length-select (slots racks) (bound racks places p p) ∙ own-owes racks places p)
 
-    -- rack by rack, from 0 to N - 1: all cards away to p
-    racks-all : join (table (length racks) (cardsFor racks places p)) ≡ select (slots racks) (awayTo racks places p)
-    unfolding sources other
-    racks-all =
-        sym (join-select (length racks) (other p) (cardsFor racks places p) (λ k l h. let e : k ≡ p = eqb-true k p (not-off-is h) in rw e own-none))
-        ∙ sources-all racks places p
-
     -- in[i] is how many cards rack i has for p
     same : (i : ℕ) → received racks places p i ≡ take (recv (room racks places p) (λ i. length (cardsFor racks places p i)) i) (cardsFor racks places p i)
     unfolding received dueTo owes cardsFor
@@ -73,7 +64,7 @@ module _ (racks : List Rack) (places : List ℕ) where
     received-are =
         ap join (table-cong (length racks) (received racks places p) _ (λ i _. same i))
         ∙ loop-takes (room racks places p) (cardsFor racks places p) (length racks)
-        ∙ ap (take (room racks places p)) racks-all
+        ∙ ap (take (room racks places p)) (racks-all racks places p)
         ∙ sym (arrivals-are racks places p)
 
     figure1-for : figure1For racks places p ≡ planFor racks places p

@@ -8,37 +8,26 @@ use lib.ListN.{length, getD, take, drop, take-append-drop}
 use Rattle.counting.specs.Lists.{Pair, join}
 use Rattle.counting.proofs.Count.{count-some}
 use Rattle.counting.proofs.Lists.{join-append}
-use Rattle.counting.specs.Every.{All, Pairwise}
-use Rattle.counting.proofs.Every.{all-map, all-both}
-use Rattle.counting.specs.Every.All.{more, none}
-use Rattle.counting.specs.Every.Pairwise.{end, link}
+use Rattle.counting.proofs.Every.{all-map}
 use Rattle.racks.specs.Racks.{Rack, slots}
 use Rattle.racks.specs.Table.{away, aways}
 use Rattle.racks.specs.Numbers.{someAway}
 use Rattle.phases.specs.Plan.{plan}
-use Rattle.phases.proofs.Allowed.{Allowed, Apart}
 use Rattle.phases.proofs.Plans.{plan-allowed, plan-apart}
 use Rattle.phases.proofs.Possible.{plan-some}
-use Rattle.moves.specs.Moves.{Held, carriedPlaces, carried, moved, Disjoint}
-use Rattle.moves.proofs.Pairs.{free-disjoint}
-use Rattle.moves.proofs.Moved.{allowed-free}
+use Rattle.moves.specs.Moves.{Held, carriedPlaces, carried, moved}
 use Rattle.moves.specs.Phases.{phases}
 use Rattle.moves.proofs.Carry.{InTurn, pairs-in-turn, places-append, owes-carried}
 use Rattle.moves.proofs.Carry.InTurn.{stop, next}
 use Rattle.moves.proofs.Phases.{Run, phases-run, phases-in-turn, aways-some}
 use Rattle.moves.proofs.Phases.Run.{over, phase}
 use Rattle.moves.proofs.FirstFit.{first-fit}
-use Rattle.moves.proofs.Order.{any-order}
+use Rattle.moves.proofs.Order.{disjoint-pairs, any-order}
 use Rattle.demands.specs.Demand2.{Phase}
 use Rattle.demands.proofs.Calls.{Start, start-legal, start-long, start-carried}
 use Rattle.demands.proofs.Points.{allowed-number}
 use Rattle.demands.proofs.Figure1.{plan-figure1, plan-by-slot}
 use Rattle.demands.proofs.Sends.{plan-sends}
-
--- allowed pairs that are apart share no end
-disjoint : {racks : List Rack} {places : List ℕ} {ms : List Pair} → Pairwise Apart ms → All (Allowed racks places) ms → Pairwise Disjoint ms
-disjoint end none = end
-disjoint (link d r) (more a rest) = link (all-map (λ n h. free-disjoint (allowed-free a) (allowed-free (h .1)) (h .0)) (all-both d rest)) (disjoint r rest)
 
 -- phase n of a run carries the plan of the table that it finds
 pub run-plan : {racks : List Rack} {places : List ℕ} {plans : List (List Pair)} → Run racks places plans → (n : ℕ) → n < length plans
@@ -80,7 +69,7 @@ module _ {racks : List Rack} {b : ℕ} {h : Held} (s : Start racks b h) where
         sends = plan-sends racks (h .places);
         lowers = λ i p li lp. omega (arith, owes-carried (start-legal s) in-turn i p, plan-sends racks (h .places) i p li lp);
         accepted = all-map (λ m a. allowed-number s m a) (plan-allowed racks (h .places));
-        disjoint = disjoint (plan-apart racks (h .places)) (plan-allowed racks (h .places));
+        disjoint = disjoint-pairs (plan-apart racks (h .places)) (plan-allowed racks (h .places));
         some = λ k. let (g, l, e) = count-some (slots racks) (away racks (h .places)) k in plan-some racks (h .places) (start-legal s) (s .spared) g l e;
         any-order = λ ms p.
             sym (any-order (record { places-long = start-legal s .long; cards-long = start-long s }) (plan-apart racks (h .places)) (plan-allowed racks (h .places)) p);

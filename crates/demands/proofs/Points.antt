@@ -29,11 +29,11 @@ use Rattle.phases.proofs.Possible.{possible}
 use Rattle.moves.specs.Blocks.{block}
 use Rattle.moves.specs.Moves.{Held, movedPlaces, carriedPlaces, carriedCards, carried, moveChecks, moved}
 use Rattle.moves.proofs.Moved.{to-moved}
-use Rattle.moves.proofs.Carry.{InTurn, in-turn-take, aways-carried}
+use Rattle.moves.proofs.Carry.{InTurn, in-turn-take, aways-carried, carried-append}
 use Rattle.moves.proofs.Carry.InTurn.{stop, next}
 use Rattle.moves.proofs.Ends.{allowed-ends}
 use Rattle.moves.proofs.Kept.{card-carried}
-use Rattle.demands.proofs.Calls.{Start, start-legal, start-long, start-carried, move-number, carried-append}
+use Rattle.demands.proofs.Calls.{Start, start-legal, start-long, start-carried, move-number}
 
 -- in a legal table at most one entry names a slot
 pub names-once : {racks : List Rack} {places : List ℕ} → Legal racks places → (d : ℕ) → d ≢ FREE → count (slots racks) (names places d) ≤ 1

@@ -2,7 +2,7 @@
 use mathlib.Core.Path.{_≡_, refl, ap, sym, _∙_}
 use mathlib.Core.Bool.{Bool, true, false}
 use mathlib.Core.Logic.{_≢_}
-use mathlib.Core.List.{List, [], _∷_, _++_}
+use mathlib.Core.List.{List, [], _∷_}
 use Prim.Native.Nat.{ℕ, zero, suc, _+_, _≤_, _<_}
 use native.Mathlib.Omega.{arith}
 use native.Mathlib.Decide.{ℕ-discrete}
@@ -17,7 +17,7 @@ use Rattle.counting.specs.Every.{All}
 use Rattle.counting.proofs.Every.{all-map, all-take}
 use Rattle.counting.specs.Every.All.{more, none}
 use Rattle.counting.proofs.Select.{all-select, length-select}
-use Rattle.counting.proofs.Lists.{join-more}
+use Rattle.counting.proofs.Lists.{join-more, matching-append}
 use Rattle.racks.specs.Racks.{Rack, slots, rackOf}
 use Rattle.racks.specs.Table.{awayTo, bound, owes, freeOn}
 use Rattle.racks.proofs.Away.{on-rack}
@@ -29,11 +29,6 @@ use Rattle.demands.specs.Figure1.{recv, dueTo, received}
 use Rattle.demands.proofs.Figure1.{received-are}
 
 module _ {A : Type 0} (f : A → Bool) where
-  matching-append : (a b : List A) → matching f (a ++ b) ≡ matching f a + matching f b
-  unfolding matching
-  matching-append [] b = omega arith
-  matching-append (x ∷ a) b = omega (arith, matching-append a b)
-
   -- none of a list passes
   matching-none : {l : List A} → All (λ x. f x ≡ false) l → matching f l ≡ 0
   unfolding matching
@@ -48,7 +43,7 @@ module _ {A : Type 0} (f : A → Bool) where
 
   module _ (g : ℕ → List A) where
     one-more : (n : ℕ) → matching f (join (table (suc n) g)) ≡ matching f (join (table n g)) + matching f (g n)
-    one-more n = ap (matching f) (join-more n g) ∙ matching-append (join (table n g)) (g n)
+    one-more n = ap (matching f) (join-more n g) ∙ matching-append f (join (table n g)) (g n)
 
     joined-none : (n : ℕ) → ((j : ℕ) → j < n → matching f (g j) ≡ 0) → matching f (join (table n g)) ≡ 0
     joined-none zero h = unfold table join matching in refl

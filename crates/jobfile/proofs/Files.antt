@@ -156,7 +156,7 @@ module _ (file : List ℕ) (n : ℕ) where
   answer-refused : (n ≡ 0 → ⊥) → refusedFile n ≡ fileAnswer file n
   answer-refused f = ap (λ (b : Bool). pick b (doneFile file) (refusedFile n)) (sym (ne-eqb n 0 f))
 
-  answer-number : fileAnswer file n .answer .number ≡ n
+  pub answer-number : fileAnswer file n .answer .number ≡ n
   answer-number = elim (ℕ-discrete n 0) [
     | yes e ↦ rw e
     | no f ↦ ap (λ (r : FileAnswer). r .answer .number) (sym (answer-refused f))

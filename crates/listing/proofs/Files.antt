@@ -23,10 +23,11 @@ use Rattle.copies.proofs.Writing.{take-front}
 use Rattle.shuffle.proofs.Shuffles.{cards-good}
 use Rattle.runs.proofs.Ending.{bytes-small}
 use Rattle.jobfile.specs.File.{readM, readEntries, fileRacks, fileBytes, filePlaces, fileCards, fileChecks}
-use Rattle.jobfile.specs.Answers.{cardsOf, doneFile, fileAnswer}
+use Rattle.jobfile.specs.Answers.{cardsOf, doneFile}
 use Rattle.jobfile.specs.Parts.{Parsed}
 use Rattle.jobfile.specs.declared.FileAnswer.{FileAnswer}
 use Rattle.jobfile.proofs.Legal.{file-legal, file-small}
+use Rattle.jobfile.proofs.Files.{answer-number}
 use Rattle.listing.specs.Listing.{FILE, ENOUGH, refusedLine, programChecks, fileHeld, runText, listing, handedOver, Printed, printedOf, printed}
 use Rattle.listing.specs.Writing.{Room}
 use Rattle.listing.specs.declared.TextAnswer.{TextAnswer}
@@ -101,10 +102,7 @@ module _ (file : List ℕ) where
   -- what the reader gives
   module _ (small : length file ≤ FILE) {found : FileAnswer} {caps places : List ℕ} (p : Parsed file found caps places) where
     number-is : found .answer .number ≡ first (fileChecks file)
-    number-is = ap (λ (x : FileAnswer). x .answer .number) (p .is) ∙ same (first (fileChecks file))
-      where
-        same : (n : ℕ) → fileAnswer file n .answer .number ≡ n
-        same n = elim (ℕ-discrete n 0) [ yes e ↦ rw e | no f ↦ rw (ne-eqb n 0 f) ]
+    number-is = ap (λ (x : FileAnswer). x .answer .number) (p .is) ∙ answer-number file (first (fileChecks file))
 
     -- a refusal
     pub listing-refused : (found .answer .number ≡ 0 → ⊥) → listing file ≡ refusedLine (found .answer .number)

@@ -19,7 +19,7 @@ use Rattle.racks.specs.Racks.{Rack, slots, rackOf}
 use Rattle.racks.specs.Table.{rackTo, aways, owes, names}
 use Rattle.racks.specs.Legal.{Legal}
 use Rattle.phases.proofs.Allowed.{Allowed, Apart}
-use Rattle.moves.specs.Moves.{movedPlaces, movedCards, carriedPlaces, carriedCards, between}
+use Rattle.moves.specs.Moves.{movedPlaces, movedCards, carriedPlaces, carriedCards, between, Held, carried}
 use Rattle.moves.proofs.Blocks.{length-moved-cards}
 use Rattle.moves.proofs.Moved.{legal-moved, stands-moved, allowed-free, aways-moved, owes-moved, owes-other, allowed-kept}
 
@@ -34,6 +34,10 @@ pub cards-append : (b : ℕ) (ms ns : List Pair) (cards : List ℕ) → carriedC
 unfolding carriedCards
 cards-append b [] ns cards = refl
 cards-append b (m ∷ ms) ns cards = cards-append b ms ns (movedCards b m cards)
+
+-- the table and the cards after moves and further moves
+pub carried-append : (b : ℕ) (ms ns : List Pair) (h : Held) → carried b (ms ++ ns) h ≡ carried b ns (carried b ms h)
+carried-append b ms ns h = rw (places-append ms ns (h .places), cards-append b ms ns (h .cards))
 
 -- moves keep the length of the buffer
 pub length-carried-cards : (b : ℕ) (ms : List Pair) (cards : List ℕ) → length (carriedCards b ms cards) ≡ length cards

@@ -93,7 +93,7 @@ module _ {S b : ℕ} where
   any-order-of (List·Permᴰ·trans r r′) e d h s = any-order-of r e d h s ∙ any-order-of r′ (all-perm r e) (pairwise-perm r d) h s
 
 -- allowed pairs that are apart have ends that are all different
-disjoint-pairs : {racks : List Rack} {places : List ℕ} {ms : List Pair} → Pairwise Apart ms → All (Allowed racks places) ms → Pairwise Disjoint ms
+pub disjoint-pairs : {racks : List Rack} {places : List ℕ} {ms : List Pair} → Pairwise Apart ms → All (Allowed racks places) ms → Pairwise Disjoint ms
 disjoint-pairs end none = end
 disjoint-pairs (link d r) (more a rest) =
     link (all-map (λ n h. free-disjoint (allowed-free a) (allowed-free (h .1)) (h .0)) (all-both d rest)) (disjoint-pairs r rest)

@@ -75,7 +75,7 @@ module _ (racks : List Rack) (places : List ℕ) (p : ℕ) where
   racks-below (suc n) l = rw (join-more n (cardsFor racks places p), racks-below n (omega arith), rack-more n l)
 
   -- of all racks: those of all slots
-  racks-all : join (table (length racks) (cardsFor racks places p)) ≡ select (slots racks) (awayTo racks places p)
+  pub racks-all : join (table (length racks) (cardsFor racks places p)) ≡ select (slots racks) (awayTo racks places p)
   racks-all = racks-below (length racks) (omega arith) ∙ rw (slots-is racks)
 
   -- the sources in ascending order: all cards away to p, by slot

@@ -21,7 +21,7 @@ use Rattle.copies.specs.Chains.{Chained}
 use Rattle.copies.specs.Writes.{putCopies, AllWritten}
 use Rattle.copies.proofs.Costs.{list-most}
 use Rattle.copies.proofs.Home.{ProperCopy, list-proper}
-use Rattle.copies.proofs.Writing.{length-flat}
+use Rattle.counting.proofs.Stores.{length-flat}
 use Rattle.shuffle.specs.Shuffle.{Hands, taken, laid, runCopies, brought}
 use Rattle.shuffle.specs.Hands.{handed, copyMade, Reached, HandedAs, copyAt, copiesIn, AllReached}
 use Rattle.shuffle.proofs.Bytes.{taken-hand, taken-slot, laid-hand, laid-slot}

@@ -89,6 +89,11 @@ passed-cong racks p q marks worst g e h =
       long = h .long;
     }
 
+-- a free slot's entry repeats none
+pub repeats-free : (places : List ℕ) (g : ℕ) → dest places g ≡ FREE → repeats places g ≡ false
+unfolding repeats free
+repeats-free places g e = and-off-l _ (ap not (eq-eqb (dest places g) FREE e))
+
 module _ (racks : List Rack) (small : slots racks ≤ 4096) (places : List ℕ) (g : ℕ) where
   -- one entry more: the slot that it names is named, the others are as before
   other : (v : ℕ) → (dest places g ≡ v → ⊥) → markOf racks places (g + 1) v ≡ markOf racks places g v
@@ -100,10 +105,6 @@ module _ (racks : List Rack) (small : slots racks ≤ 4096) (places : List ℕ) 
   same u =
       let x = dest places g in
       rw (u, some-more g (names places x), or-r (some g (names places x)) (eq-eqb x x refl))
-
-  repeats-free : dest places g ≡ FREE → repeats places g ≡ false
-  unfolding repeats free
-  repeats-free e = and-off-l _ (ap not (eq-eqb (dest places g) FREE e))
 
   repeats-user : (dest places g ≡ FREE → ⊥) → repeats places g ≡ some g (names places (dest places g))
   unfolding repeats free _and_
@@ -199,7 +200,7 @@ module _ (racks : List Rack) (small : slots racks ≤ 4096) (places : List ℕ) 
 
         worst-more : worse worst n ≡ pick (some (g + 1) (repeats places)) 6 0
         worst-more = entry-cases racks places g (clean-5 f)
-            (λ h. worse-more worst n false (repeats-free h) (n-free h) (p .worst-is))
+            (λ h. worse-more worst n false (repeats-free places g h) (n-free h) (p .worst-is))
             (λ h u. by-test (some g (names places (dest places g)))
             (λ b. worse-more worst n true (repeats-user h ∙ b) (n-user h u true b) (p .worst-is))
             (λ b. worse-more worst n false (repeats-user h ∙ b) (n-user h u false b) (p .worst-is)))

@@ -11,7 +11,7 @@ use borrow.Author.Tests.{eq-eqb, ne-eqb, eqb-true, lt-ltb, le-ltb}
 use borrow.Author.Count.{below-more}
 use Rattle.counting.specs.Tests.{_and_}
 use Rattle.counting.specs.Count.{some}
-use Rattle.counting.proofs.Tests.{and-l, and-r, and-off-l, and-off-r, or-l, or-r, or-none}
+use Rattle.counting.proofs.Tests.{and-l, and-r, and-off-r, or-l, or-r, or-none}
 use Rattle.counting.proofs.Some.{some-none, some-more, some-zero}
 use Rattle.counting.proofs.Checks.{first-later, first-none}
 use Rattle.racks.specs.Limits.{FREE}
@@ -23,6 +23,7 @@ use Rattle.tables.specs.Tables.{Between}
 use Rattle.tables.specs.Marks.{entriesNumber}
 use Rattle.tables.specs.Once.{placeOf, OnceMarked, MarkTaken}
 use Rattle.tables.proofs.Fills.{user-here}
+use Rattle.tables.proofs.Marks.{repeats-free}
 
 -- the place of an entry, by the tests that the code makes
 module _ (S g x : ℕ) where
@@ -93,14 +94,10 @@ once-none racks places marks m =
 
 -- one entry more
 module _ (racks : List Rack) (small : slots racks ≤ 4096) (places marks : List ℕ) (all : Bool) (g : ℕ) (o : Once racks places marks all g) where
-  -- a free slot's entry is neither bad nor a repetition
+  -- a free slot's entry is not bad
   free-clean : dest places g ≡ FREE → badEntry racks places g ≡ false
   unfolding badEntry free
   free-clean e = ap not (or-l (isUser racks (dest places g)) (eq-eqb (dest places g) FREE e))
-
-  free-single : dest places g ≡ FREE → repeats places g ≡ false
-  unfolding repeats free
-  free-single e = and-off-l _ (ap not (eq-eqb (dest places g) FREE e))
 
   user-clean : isUser racks (dest places g) ≡ true → badEntry racks places g ≡ false
   unfolding badEntry
@@ -127,7 +124,7 @@ module _ (racks : List Rack) (small : slots racks ≤ 4096) (places marks : List
     at-single : getD marks at 0 ≡ 1 → repeats places g ≡ false
     unfolding repeats
     at-single m = elim (ℕ-discrete (dest places g) FREE) [
-      | yes e ↦ free-single e
+      | yes e ↦ repeats-free places g e
       | no e ↦
           let n = names-slot e m in
           and-off-r (not (free places g)) (o .unnamed (dest places g) (n .1) (ap (λ (k : ℕ). getD marks k 0) (sym (n .0)) ∙ m))
