@@ -16,7 +16,7 @@ use Rattle.copies.specs.Chains.{Chained}
 use Rattle.copies.specs.Writes.{putCopies, Marked, First, due, Written, Passed, AllWritten}
 use Rattle.copies.proofs.Chains.{head-low, cycle-ends}
 use Rattle.copies.proofs.Costs.{list-most}
-use Rattle.copies.proofs.Walking.{among-append}
+use Rattle.counting.proofs.Members.{among-append}
 use Rattle.copies.proofs.Writing.{put-none, put-append}
 
 -- the marks say which slots are done

@@ -11,6 +11,7 @@ use lib.Seq.{getD-set-same, getD-set-other}
 use borrow.Author.Tests.{eq-eqb, ne-eqb}
 use Rattle.counting.specs.Tests.{_or_, pick}
 use Rattle.counting.specs.Lists.{among, last}
+use Rattle.counting.proofs.Members.{among-append}
 use Rattle.counting.proofs.Tests.{by-test}
 use Rattle.racks.specs.Limits.{FREE}
 use Rattle.copies.specs.Copies.{next, source, after, onward, back, head}
@@ -89,12 +90,6 @@ mark-one seen x h = record {
   ];
   long = length-set seen x 1;
 }
-
--- among two lists: among one of them
-pub among-append : (v : ℕ) (a b : List ℕ) → among v (a ++ b) ≡ (among v a or among v b)
-unfolding among _or_
-among-append v [] b = refl
-among-append v (x ∷ a) b = elim (ℕ-discrete v x) [ yes e ↦ rw (eq-eqb v x e) | no q ↦ rw (ne-eqb v x q) (among-append v a b) ]
 
 -- slots marked, and then others
 pub mark-more : (a b : List ℕ) (s t u : List ℕ) → Marked a s t → Marked b t u → Marked (a ++ b) s u

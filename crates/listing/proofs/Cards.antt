@@ -5,12 +5,13 @@ use Prim.Native.Nat.{ℕ, zero, suc, _+_, _*_, _≤_, _<_}
 use native.Mathlib.Omega.{arith}
 use native.Mathlib.Nat.{zero-mul, suc-mul}
 use native.Mathlib.Numerals.{add-one}
-use lib.ListN.{length, drop, getD, length-append, length-drop}
-use lib.Seq.{drop-cons, drop-length, getD-take, getD-drop, length-take-le}
+use lib.ListN.{length, drop, getD, length-append}
+use lib.Seq.{drop-cons, drop-length}
 use Rattle.counting.specs.Lists.{join, each, table}
 use Rattle.counting.proofs.Lists.{join-more}
 use Rattle.moves.specs.Blocks.{block}
 use Rattle.moves.proofs.Blocks.{below}
+use Rattle.shuffle.proofs.ByteLoops.{block-at, block-long}
 use Rattle.listing.specs.Text.{hex}
 use Rattle.listing.specs.Listing.{cardText}
 use Rattle.listing.specs.Writing.{Room, Wrote}
@@ -35,13 +36,7 @@ hexes-first b g cards l at = left-first (join (each hex (block b g cards))) l at
 module _ (b g : ℕ) (cards : List ℕ) (fits : g * b + b ≤ length cards) where
   -- a slot has b bytes
   length-bytes : length (block b g cards) ≡ b
-  unfolding block
-  length-bytes = length-take-le b (drop (g * b) cards) (simp length-drop (omega arith))
-
-  -- byte j of slot g
-  byte-at : (j : ℕ) → j < b → getD (block b g cards) j 0 ≡ getD cards (g * b + j) 0
-  unfolding block
-  byte-at j h = rw (getD-take, getD-drop)
+  length-bytes = block-long b g cards (omega arith)
 
   -- a card's text is a space and two digits for each byte
   pub length-card : length (cardText b cards g) ≡ 1 + 2 * b
@@ -53,7 +48,7 @@ module _ (b g : ℕ) (cards : List ℕ) (fits : g * b + b ≤ length cards) wher
   unfolding hexes join each
   hexes-more j h =
       let lt : j < length (block b g cards) = omega (arith, length-bytes) in
-      rw (drop-cons (block b g cards) j 0 lt, add-one, byte-at j h)
+      rw (drop-cons (block b g cards) j 0 lt, add-one, block-at b g cards j h)
 
   -- no byte is left
   hexes-none : (j : ℕ) → j ≡ b → hexes b g cards j ≡ []
