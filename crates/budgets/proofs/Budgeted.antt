@@ -5,8 +5,8 @@ use Prim.Native.Nat.{ℕ}
 use Rattle.counting.specs.Checks.{first}
 use Rattle.racks.specs.Racks.{Rack}
 use Rattle.racks.specs.Numbers.{cardChecks}
-use Rattle.racks.specs.Answers.{movesOf, answer, noCounts}
-use Rattle.racks.specs.declared.Answer.{Answer}
+use Rattle.answers.specs.Answers.{movesOf, answer, noCounts}
+use Rattle.answers.specs.declared.Answer.{Answer}
 use Rattle.moves.specs.Moves.{Held, carried}
 use Rattle.moves.specs.Phases.{budget, budgeted}
 use Rattle.moves.specs.Parts.{outcomeOf}

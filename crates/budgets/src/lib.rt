@@ -3,9 +3,9 @@ ghost use mathlib.Core.Path.{_≡_};
 ghost use Rattle.racks.specs.Racks.{ofCaps};
 ghost use Rattle.moves.specs.Phases.{budgeted};
 ghost use Rattle.moves.specs.Parts.{held, outcomeOf};
-use racks::Answer;
+use answers::Answer;
+use answers::Tally;
 use racks::Job;
-use racks::Tally;
 
 pub mod parts;
 

@@ -14,12 +14,12 @@ use Rattle.counting.proofs.Checks.{first-append, first-past, first-here, first-
 use Rattle.racks.proofs.Legal.{table-clear}
 use Rattle.racks.specs.Racks.{Rack}
 use Rattle.racks.specs.Numbers.{tableChecks, someAway, tooShort}
-use Rattle.racks.specs.Answers.{copiesOf, answer, noCounts, written}
-use Rattle.racks.specs.declared.Answer.{Answer}
-use Rattle.racks.specs.declared.Tally.{Tally}
+use Rattle.answers.specs.Answers.{copiesOf, answer, noCounts, written}
+use Rattle.answers.specs.declared.Answer.{Answer}
+use Rattle.answers.specs.declared.Tally.{Tally}
 use Rattle.copies.specs.Copies.{copyList, copyChecks, copied}
 use Rattle.copies.specs.Writes.{putCopies, AllWritten}
-use Rattle.racks.specs.Answers.{listedOf}
+use Rattle.answers.specs.Answers.{listedOf}
 use Rattle.counting.proofs.Stores.{length-flat}
 use Rattle.copies.proofs.Writing.{take-front}
 

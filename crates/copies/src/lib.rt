@@ -2,10 +2,10 @@
 ghost use mathlib.Core.Path.{_≡_};
 ghost use Rattle.racks.specs.Racks.{ofCaps};
 ghost use Rattle.copies.specs.Copies.{copied};
-ghost use Rattle.racks.specs.Answers.{listedOf};
-use racks::Answer;
+ghost use Rattle.answers.specs.Answers.{listedOf};
+use answers::Answer;
+use answers::Tally;
 use racks::Job;
-use racks::Tally;
 
 pub mod parts;
 

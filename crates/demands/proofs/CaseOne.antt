@@ -4,7 +4,7 @@ use mathlib.Core.Bool.{true}
 use mathlib.Core.List.{List, [], _∷_}
 use Prim.Native.Nat.{ℕ}
 use Rattle.racks.specs.Limits.{FREE}
-use Rattle.racks.specs.Answers.{answer, noCounts, Listed}
+use Rattle.answers.specs.Answers.{answer, noCounts, Listed}
 use Rattle.moves.specs.Moves.{Held, Outcome}
 use Rattle.counting.specs.Tests.{_and_, _or_}
 use Rattle.counting.specs.Count.{sum, count, some, select, seek}

@@ -17,7 +17,7 @@ use Rattle.racks.specs.Limits.{FREE}
 use Rattle.racks.specs.Racks.{Rack, slots}
 use Rattle.racks.specs.Table.{dest, free, aways}
 use Rattle.racks.specs.Numbers.{someAway}
-use Rattle.racks.specs.Answers.{answer, movesOf}
+use Rattle.answers.specs.Answers.{answer, movesOf}
 use Rattle.racks.proofs.LegalTable.{legal-dest}
 use Rattle.moves.specs.Moves.{Held, carried}
 use Rattle.moves.specs.Phases.{phases, budget, budgeted}

@@ -4,9 +4,9 @@ use mathlib.Core.List.{List}
 use Prim.Native.Nat.{ℕ}
 use native.Mathlib.Omega.{arith}
 use denote.Ref.{RefT, now}
-use Rattle.racks.specs.Answers.{Listed, listedOf}
-use Rattle.racks.specs.declared.Answer.{Answer}
-use Rattle.racks.specs.declared.Answer as racks
+use Rattle.answers.specs.Answers.{Listed, listedOf}
+use Rattle.answers.specs.declared.Answer.{Answer}
+use Rattle.answers.specs.declared.Answer as layers
 use Rattle.moves.specs.Moves.{Outcome}
 use Rattle.moves.specs.Parts.{outcomeOf}
 use Rattle.jobfile.specs.Number.{Got, number}
@@ -58,10 +58,10 @@ texted z =
     (λ (o : Printed). (record { answer = o .answer; size = o .size }, o .lent)) (λ x. refl) z
 
 -- the same, of the numbers that C is given: an answer is read back from them, and they from it
-abbrev plain : racks.Answer → c.Answer
+abbrev plain : layers.Answer → c.Answer
 plain a = record { number = a .number; phases = a .tally .phases; moves = a .tally .moves; copies = a .tally .copies }
 
-c-same : (z : racks.Answer) → One (λ (r : c.Answer). answerOf r ≡ z)
+c-same : (z : layers.Answer) → One (λ (r : c.Answer). answerOf r ≡ z)
 c-same z = one answerOf plain (λ x. refl) z
 
 c-listed : (z : Listed) → One (λ ((r, lent) : c.Answer × List ℕ). listedOf (answerOf r) lent ≡ z)

@@ -21,7 +21,7 @@ use Rattle.counting.proofs.Members.{among-none, among-last, besides-in, besides
 use Rattle.racks.specs.Limits.{FREE}
 use Rattle.racks.specs.Racks.{Rack, slots}
 use Rattle.racks.specs.Table.{dest, free, rackTo, away, aways, awayTo, names}
-use Rattle.racks.specs.Answers.{answer, movesOf}
+use Rattle.answers.specs.Answers.{answer, movesOf}
 use Rattle.racks.specs.Legal.{Legal}
 use Rattle.racks.proofs.Away.{to-away, to-is}
 use Rattle.phases.proofs.Allowed.{Allowed}

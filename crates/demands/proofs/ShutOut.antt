@@ -12,9 +12,9 @@ use Rattle.racks.specs.Racks.{ofCaps, slots}
 use Rattle.racks.specs.Table.{aways}
 use Rattle.racks.specs.Legal.{Legal}
 use Rattle.racks.specs.Numbers.{cardChecks}
-use Rattle.racks.specs.Answers.{Listed}
-use Rattle.racks.specs.declared.Tally.{Tally}
-use Rattle.racks.specs.declared.Answer.{Answer}
+use Rattle.answers.specs.Answers.{Listed}
+use Rattle.answers.specs.declared.Tally.{Tally}
+use Rattle.answers.specs.declared.Answer.{Answer}
 use Rattle.moves.specs.Moves.{Held, Outcome}
 use Rattle.racks.proofs.LegalTable.{spared-caps}
 use Rattle.moves.specs.Phases.{phases, budgeted}

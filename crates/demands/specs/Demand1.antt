@@ -8,8 +8,8 @@ use Prim.Native.Nat.{ℕ, suc, _+_, _≤_, _<_}
 use lib.ListN.{length, getD}
 use Rattle.counting.specs.Lists.{flat}
 use Rattle.racks.specs.Racks.{Rack, ofCaps, users, total, base, slots, rackOf, isUser}
-use Rattle.racks.specs.Answers.{noCounts}
-use Rattle.racks.specs.declared.Answer.{Answer}
+use Rattle.answers.specs.Answers.{noCounts}
+use Rattle.answers.specs.declared.Answer.{Answer}
 use Rattle.tables.specs.Check.{checked}
 use Rattle.slots.specs.Slots.{nothing, asked}
 use Rattle.phases.specs.Plan.{plan, planned}

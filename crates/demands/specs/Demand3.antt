@@ -14,7 +14,7 @@ use Rattle.counting.specs.Checks.{done}
 use Rattle.racks.specs.Limits.{FREE}
 use Rattle.racks.specs.Racks.{Rack, slots}
 use Rattle.racks.specs.Table.{dest, free, away, aways, owes, names}
-use Rattle.racks.specs.Answers.{answer, movesOf}
+use Rattle.answers.specs.Answers.{answer, movesOf}
 use Rattle.moves.specs.Blocks.{block}
 use Rattle.moves.specs.Moves.{Held, carried, between, moved}
 use Rattle.runs.specs.Awaits.{awaits}

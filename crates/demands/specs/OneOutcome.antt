@@ -6,10 +6,10 @@ use Prim.Native.Nat.{ℕ}
 use denote.Ref.{RefT, now}
 use Rattle.racks.specs.Racks.{ofCaps}
 use Rattle.racks.specs.Job.{jobOf}
-use Rattle.racks.specs.Answers.{noCounts, movesOf, copiesOf, answer, listedOf}
+use Rattle.answers.specs.Answers.{noCounts, movesOf, copiesOf, answer, listedOf}
 use Rattle.racks.specs.declared.Job.{Job}
-use Rattle.racks.specs.declared.Tally.{Tally}
-use Rattle.racks.specs.declared.Answer.{Answer}
+use Rattle.answers.specs.declared.Tally.{Tally}
+use Rattle.answers.specs.declared.Answer.{Answer}
 use Rattle.tables.specs.Check.{checked}
 use Rattle.slots.specs.Slots.{asked}
 use Rattle.slots.specs.declared.SlotAnswer.{SlotAnswer}

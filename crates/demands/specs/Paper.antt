@@ -5,7 +5,7 @@ use Prim.Native.Nat.{ℕ}
 use Rattle.counting.specs.Lists.{Pair}
 use Rattle.racks.specs.Limits.{FREE, HAND}
 use Rattle.racks.specs.Racks.{Rack}
-use Rattle.racks.specs.Answers.{answer, noCounts}
+use Rattle.answers.specs.Answers.{answer, noCounts}
 use Rattle.moves.specs.Moves.{Held}
 use Rattle.listing.specs.Text.{text}
 use Rattle.counting.specs.Tests.{_and_, _or_}

@@ -10,8 +10,8 @@ use Rattle.counting.specs.Lists.{Pair}
 use Rattle.racks.specs.Racks.{ofCaps}
 use Rattle.racks.specs.Table.{aways}
 use Rattle.racks.specs.Numbers.{someAway}
-use Rattle.racks.specs.Answers.{Listed}
-use Rattle.racks.specs.declared.Tally.{Tally}
+use Rattle.answers.specs.Answers.{Listed}
+use Rattle.answers.specs.declared.Tally.{Tally}
 use Rattle.phases.specs.Plan.{planned}
 use Rattle.moves.specs.Moves.{Held, Outcome}
 use Rattle.moves.specs.Phases.{phases, budgeted}

@@ -17,9 +17,9 @@ use Rattle.counting.proofs.Tests.{by-test, not-on, no-way, or-l, or-r, or-none}
 use Rattle.counting.proofs.Checks.{first-here, first-later, first-none, first-append}
 use Rattle.racks.specs.Racks.{ofCaps, slots}
 use Rattle.racks.specs.Job.{racksOf, jobOf, goodJob, Sound}
-use Rattle.racks.specs.Answers.{answer, noCounts}
+use Rattle.answers.specs.Answers.{answer, noCounts}
 use Rattle.racks.specs.declared.Job.{Job}
-use Rattle.racks.specs.declared.Answer.{Answer}
+use Rattle.answers.specs.declared.Answer.{Answer}
 use Rattle.racks.proofs.Caps.{slots-small}
 use Rattle.racks.proofs.Jobs.{job-good, racks-again, caps-sound}
 use Rattle.jobfile.specs.Number.{Numbers}

@@ -5,7 +5,7 @@ use lib.ListN.{length, drop}
 use Rattle.counting.specs.Tests.{pick}
 use Rattle.counting.specs.Checks.{done}
 use Rattle.racks.specs.Racks.{slots}
-use Rattle.racks.specs.Answers.{noCounts, answer}
+use Rattle.answers.specs.Answers.{noCounts, answer}
 use Rattle.jobfile.specs.Number.{Got, refused}
 use Rattle.jobfile.specs.File.{Read, fileRacks, fileBytes, readEntries}
 use Rattle.jobfile.specs.declared.Number.{Number}

@@ -10,8 +10,8 @@ use Rattle.counting.specs.Checks.{Check, first, refusal, done}
 use Rattle.racks.specs.Limits.{FREE}
 use Rattle.racks.specs.Racks.{Rack, ofCaps, slots, isUser}
 use Rattle.racks.specs.Numbers.{badCount, badBytes, badSize, badTwice}
-use Rattle.racks.specs.Answers.{noCounts, answer, written}
-use Rattle.racks.specs.declared.Answer.{Answer}
+use Rattle.answers.specs.Answers.{noCounts, answer, written}
+use Rattle.answers.specs.declared.Answer.{Answer}
 use Rattle.jobfile.specs.Number.{Numbers, numbers}
 
 -- 1 for N

@@ -11,7 +11,7 @@ ghost use Rattle.jobfile.specs.Answers.{gotOf, refusedFile};
 ghost use Rattle.jobfile.specs.Parts.{lastGroup, between, noHead, room, leftOf, endNumber, CapsRead, HeadRead, EntriesRead, Parsed};
 use crate::FileAnswer;
 use crate::Number;
-use racks::Answer;
+use answers::Answer;
 use racks::Job;
 
 // The number at a place of the file: groups of seven bits, lowest first, at most three.

@@ -2,8 +2,8 @@
 // card bytes as a part of the file. Thin functions over the covered ones of `jobfile`.
 ghost use mathlib.Core.Path.{_≡_};
 ghost use Rattle.jobreader.specs.Reading.{Stepped, Next, JobRead};
+use answers::Answer;
 use jobfile::Number;
-use racks::Answer;
 
 // A file and the reader's place in it.
 pub struct Reader<'a> {

@@ -12,7 +12,7 @@ use Rattle.counting.specs.Checks.{first}
 use Rattle.counting.proofs.Checks.{first-here, first-later, first-off, first-none}
 use Rattle.racks.specs.Racks.{ofCaps, slots}
 use Rattle.racks.specs.Numbers.{cardChecks, tooShort}
-use Rattle.racks.specs.Answers.{answer, noCounts}
+use Rattle.answers.specs.Answers.{answer, noCounts}
 use Rattle.racks.specs.Job.{racksOf, jobOf}
 use Rattle.racks.specs.declared.Job.{Job}
 use Rattle.racks.proofs.Jobs.{sound-refused}

@@ -7,7 +7,7 @@ use lib.ListN.{length, length-append}
 use Rattle.counting.specs.Lists.{Pair, join, each, table}
 use Rattle.counting.specs.Every.{All}
 use Rattle.counting.specs.Every.All.{none, more}
-use Rattle.racks.specs.declared.Tally.{Tally}
+use Rattle.answers.specs.declared.Tally.{Tally}
 use Rattle.moves.specs.Parts.{AllSlots}
 use Rattle.listing.specs.Text.{decimal}
 use Rattle.listing.specs.Listing.{arrow, phaseLines, copiesLine, cardText, cardsLine, endLine, refusedLine}

@@ -15,9 +15,9 @@ use Rattle.racks.specs.Numbers.{tableChecks, tooShort}
 use Rattle.racks.specs.Job.{racksOf, Sound}
 use Rattle.racks.specs.declared.Job.{Job}
 use Rattle.racks.proofs.LegalTable.{legal as legal-table}
-use Rattle.racks.specs.Answers.{answer, noCounts}
-use Rattle.racks.specs.declared.Answer.{Answer}
-use Rattle.racks.specs.declared.Tally.{Tally}
+use Rattle.answers.specs.Answers.{answer, noCounts}
+use Rattle.answers.specs.declared.Answer.{Answer}
+use Rattle.answers.specs.declared.Tally.{Tally}
 use Rattle.racks.specs.Legal.{Legal, Spared}
 use Rattle.moves.specs.Moves.{Held}
 use Rattle.moves.specs.Phases.{phases}

@@ -9,9 +9,9 @@ use Rattle.counting.specs.Checks.{Check, first, done}
 use Rattle.racks.specs.Limits.{HAND}
 use Rattle.racks.specs.Racks.{Rack, slots}
 use Rattle.racks.specs.Numbers.{tooShort}
-use Rattle.racks.specs.Answers.{answer, noCounts, written}
-use Rattle.racks.specs.declared.Tally.{Tally}
-use Rattle.racks.specs.declared.Answer.{Answer}
+use Rattle.answers.specs.Answers.{answer, noCounts, written}
+use Rattle.answers.specs.declared.Tally.{Tally}
+use Rattle.answers.specs.declared.Answer.{Answer}
 use Rattle.moves.specs.Blocks.{block}
 use Rattle.moves.specs.Moves.{Held}
 use Rattle.moves.specs.Phases.{phases}

@@ -13,13 +13,13 @@ use Rattle.counting.proofs.Checks.{Marked, first-join}
 use Rattle.counting.proofs.Checks.Marked.{more, none}
 use Rattle.racks.specs.Racks.{Rack, ofCaps}
 use Rattle.racks.specs.Numbers.{cardChecks}
-use Rattle.racks.specs.Answers.{movesOf, answer, noCounts}
+use Rattle.answers.specs.Answers.{movesOf, answer, noCounts}
 use Rattle.racks.specs.Job.{racksOf, jobOf, Sound}
 use Rattle.racks.specs.declared.Job.{Job}
-use Rattle.racks.specs.declared.Tally.{Tally}
+use Rattle.answers.specs.declared.Tally.{Tally}
 use Rattle.tables.specs.Tables.{cardsNumber}
 use Rattle.tables.proofs.Tables.{of-sound, of-racks, of-cards, accepted}
-use Rattle.racks.specs.declared.Answer.{Answer}
+use Rattle.answers.specs.declared.Answer.{Answer}
 use Rattle.racks.proofs.Jobs.{sound-refused}
 use Rattle.racks.proofs.Legal.{legal-long}
 use Rattle.moves.specs.Moves.{Held, carried, outcome, endChecks, moveChecks, moved}

@@ -8,7 +8,7 @@ use Rattle.counting.specs.Checks.{first, done}
 use Rattle.counting.specs.Every.{All}
 use Rattle.racks.specs.Job.{racksOf}
 use Rattle.racks.specs.declared.Job.{Job}
-use Rattle.racks.specs.declared.Answer.{Answer}
+use Rattle.answers.specs.declared.Answer.{Answer}
 use Rattle.tables.specs.Tables.{cardsNumber}
 use Rattle.moves.specs.Moves.{Held, Outcome, endChecks}
 

@@ -5,15 +5,15 @@ ghost use Prim.Native.Nat.{_+_, _*_, _≤_, _<_};
 ghost use lib.ListN.{length};
 ghost use Rattle.counting.specs.Checks.{first};
 ghost use Rattle.racks.specs.Numbers.{tableChecks};
-ghost use Rattle.racks.specs.Answers.{movesOf, answer};
+ghost use Rattle.answers.specs.Answers.{movesOf, answer};
 ghost use Rattle.racks.specs.Job.{racksOf, Sound};
 ghost use Rattle.tables.specs.Tables.{Filled};
 ghost use Rattle.moves.specs.Blocks.{block, putBlock, blank};
 ghost use Rattle.moves.specs.Moves.{carried, endChecks};
 ghost use Rattle.moves.specs.Parts.{held, pairsIn, AllSlots, moveNumber};
-use racks::Answer;
+use answers::Answer;
+use answers::Tally;
 use racks::Job;
-use racks::Tally;
 
 // 7 to 11 for a move on a legal table, or 0.
 fn ends_number(job: Job, places: &[u16], racks: &[u8; 4096], from: usize, to: usize) -> u8

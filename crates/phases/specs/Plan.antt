@@ -10,7 +10,7 @@ use Rattle.counting.specs.Checks.{Check, first}
 use Rattle.racks.specs.Racks.{Rack, slots}
 use Rattle.racks.specs.Table.{bound, owes, freeOn}
 use Rattle.racks.specs.Numbers.{tableChecks, tooShort}
-use Rattle.racks.specs.Answers.{movesOf, answer, written, Listed}
+use Rattle.answers.specs.Answers.{movesOf, answer, written, Listed}
 
 -- rack i is another than p
 unfoldable pub other : ℕ → ℕ → Bool

@@ -12,8 +12,8 @@ use Rattle.counting.proofs.Checks.{first-append, first-past, first-here, first-
 use Rattle.counting.proofs.Stores.{length-flat}
 use Rattle.racks.specs.Racks.{Rack}
 use Rattle.racks.specs.Numbers.{tableChecks, tooShort}
-use Rattle.racks.specs.Answers.{noCounts, movesOf, answer, listedOf}
-use Rattle.racks.specs.declared.Answer.{Answer}
+use Rattle.answers.specs.Answers.{noCounts, movesOf, answer, listedOf}
+use Rattle.answers.specs.declared.Answer.{Answer}
 use Rattle.racks.proofs.Legal.{table-clear}
 use Rattle.phases.specs.Plan.{plan, planChecks, planned}
 

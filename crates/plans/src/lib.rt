@@ -1,11 +1,11 @@
 // Plans: the phase plan.
 ghost use mathlib.Core.Path.{_≡_};
 ghost use Rattle.racks.specs.Racks.{ofCaps};
-ghost use Rattle.racks.specs.Answers.{listedOf};
+ghost use Rattle.answers.specs.Answers.{listedOf};
 ghost use Rattle.phases.specs.Plan.{planned};
-use racks::Answer;
+use answers::Answer;
+use answers::Tally;
 use racks::Job;
-use racks::Tally;
 
 pub mod parts;
 

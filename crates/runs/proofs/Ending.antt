@@ -10,9 +10,9 @@ use Rattle.counting.proofs.Tests.{or-off-r}
 use Rattle.counting.specs.Checks.{first}
 use Rattle.racks.specs.Racks.{Rack, slots}
 use Rattle.racks.specs.Numbers.{badBytes, cardChecks}
-use Rattle.racks.specs.Answers.{answer, noCounts}
-use Rattle.racks.specs.declared.Answer.{Answer}
-use Rattle.racks.specs.declared.Tally.{Tally}
+use Rattle.answers.specs.Answers.{answer, noCounts}
+use Rattle.answers.specs.declared.Answer.{Answer}
+use Rattle.answers.specs.declared.Tally.{Tally}
 use Rattle.racks.specs.Legal.{Legal, Spared}
 use Rattle.moves.specs.Moves.{Held}
 use Rattle.moves.specs.Phases.{phases}

@@ -6,12 +6,13 @@ use native.Mathlib.Nat.{add-zero}
 use native.Mathlib.Omega.{arith}
 use lib.ListN.{length, getD, set, length-set}
 use Rattle.counting.specs.Lists.{Pair}
-use Rattle.racks.specs.Answers.{plusMove}
-use Rattle.racks.specs.declared.Tally.{Tally}
+use Rattle.answers.specs.Answers.{plusMove}
+use Rattle.answers.specs.declared.Tally.{Tally}
 use Rattle.plans.specs.Owed.{cell}
 use Rattle.moves.specs.Parts.{pairsIn}
 use Rattle.moves.proofs.Flat.{pairs-more, pairs-none}
-use Rattle.runs.specs.Kept.{cellOf, pay, paid, plusMoves, Payable}
+use Rattle.runs.specs.Kept.{cellOf, pay, paid, Payable}
+use Rattle.answers.specs.Answers.{plusMoves}
 use Rattle.runs.specs.Kept.Payable.{more}
 
 -- where the moves of a list can be paid for, the first of them can

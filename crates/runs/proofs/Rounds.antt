@@ -15,10 +15,10 @@ use Rattle.counting.proofs.Stores.{length-flat}
 use Rattle.racks.specs.Racks.{Rack}
 use Rattle.racks.specs.Table.{aways}
 use Rattle.racks.specs.Numbers.{someAway}
-use Rattle.racks.specs.Answers.{noCounts}
+use Rattle.answers.specs.Answers.{noCounts}
 use Rattle.racks.specs.Job.{racksOf}
 use Rattle.racks.specs.declared.Job.{Job}
-use Rattle.racks.specs.declared.Tally.{Tally}
+use Rattle.answers.specs.declared.Tally.{Tally}
 use Rattle.racks.specs.Legal.{Legal}
 use Rattle.racks.proofs.Jobs.{sound-few}
 use Rattle.tables.specs.Tables.{Filled}

@@ -8,7 +8,7 @@ use Rattle.racks.specs.Racks.{Rack}
 use Rattle.racks.specs.Table.{aways}
 use Rattle.racks.specs.Job.{racksOf}
 use Rattle.racks.specs.declared.Job.{Job}
-use Rattle.racks.specs.declared.Tally.{Tally}
+use Rattle.answers.specs.declared.Tally.{Tally}
 use Rattle.tables.specs.Tables.{Filled}
 use Rattle.plans.specs.Owed.{Owed}
 use Rattle.queues.specs.Queues.{Rows}

@@ -5,7 +5,8 @@ use Prim.Native.Nat.{ℕ, _+_, _-_, _<_}
 use lib.ListN.{length, getD, set}
 use Rattle.counting.specs.Lists.{Pair}
 use Rattle.racks.specs.Racks.{Rack}
-use Rattle.racks.specs.declared.Tally.{Tally}
+use Rattle.answers.specs.declared.Tally.{Tally}
+use Rattle.answers.specs.Answers.{plusMoves}
 use Rattle.plans.specs.Owed.{cell}
 use Rattle.runs.specs.Awaits.{awaits}
 
@@ -27,10 +28,6 @@ pub data Payable (table : List ℕ) : List Pair → List ℕ → Type 0 where
   none : {counts : List ℕ} → Payable table [] counts
   more : {m : Pair} {ms : List Pair} {counts : List ℕ} → m .0 < 4096 → m .1 < 4096 → getD table (m .0) 0 < 64 → getD table (m .1) 0 < 64
       → 0 < getD counts (cellOf table m) 0 → Payable table ms (pay table m counts) → Payable table (m ∷ ms) counts
-
--- so many moves more
-abbrev pub plusMoves : ℕ → Tally → Tally
-plusMoves n t = record { phases = t .phases; moves = t .moves + n; copies = t .copies }
 
 -- moves paid for in both tables, and counted
 pub record Paid (table : List ℕ) (ms : List Pair) (owes awaits : List ℕ) (t : Tally) (owes′ awaits′ : List ℕ) (t′ : Tally) : Type 0 where

@@ -8,7 +8,7 @@ use Rattle.counting.specs.Lists.{Pair, join, matching}
 use Rattle.counting.specs.Checks.{first}
 use Rattle.racks.specs.Racks.{Rack}
 use Rattle.racks.specs.Numbers.{cardChecks}
-use Rattle.racks.specs.declared.Tally.{Tally}
+use Rattle.answers.specs.declared.Tally.{Tally}
 use Rattle.moves.specs.Moves.{Held, carried, Outcome, outcome}
 use Rattle.moves.specs.Phases.{phases}
 use Rattle.copies.specs.Copies.{copyList}

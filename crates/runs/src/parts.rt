@@ -9,9 +9,9 @@ ghost use Rattle.racks.specs.Job.{racksOf, Sound};
 ghost use Rattle.tables.specs.Tables.{Filled};
 ghost use Rattle.moves.specs.Parts.{held};
 ghost use Rattle.runs.specs.Gathered.{PhasesMade, Ran};
+use answers::Tally;
 use queues::parts::arrivals;
 use racks::Job;
-use racks::Tally;
 
 pub mod awaited;
 pub mod paying;

@@ -1,5 +1,5 @@
 // The line of an answer.
-use racks::Answer;
+use answers::Answer;
 
 // A name, the number given, and the counts of phases, moves and copies.
 pub fn say_answer(name: &[u8], answer: Answer) {

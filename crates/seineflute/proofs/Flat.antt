@@ -12,14 +12,14 @@ use Rattle.seineflute.specs.declared.Answer.{Answer}
 use Rattle.seineflute.specs.declared.SlotAnswer.{SlotAnswer}
 use Rattle.seineflute.specs.declared.FileAnswer.{FileAnswer}
 use Rattle.seineflute.specs.declared.ListingAnswer.{ListingAnswer}
-use Rattle.racks.specs.declared.Answer as racks
+use Rattle.answers.specs.declared.Answer as layers
 use Rattle.jobfile.specs.declared.FileAnswer as jobfile
 use Rattle.listing.specs.declared.TextAnswer as listing
 use Rattle.seineflute.specs.Flat.{answerOf, kindNumber, stateNumber, rackNumber, slotNumbers, fileOf, textOf}
 
 -- two answers of four numbers that are one answer of the layers are equal
 pub answer-same : (a b : Answer) → answerOf a ≡ answerOf b → a ≡ b
-answer-same a b e = ap (λ (x : racks.Answer). record { number = x .number; phases = x .tally .phases; moves = x .tally .moves; copies = x .tally .copies }) e
+answer-same a b e = ap (λ (x : layers.Answer). record { number = x .number; phases = x .tally .phases; moves = x .tally .moves; copies = x .tally .copies }) e
 
 -- two answers of eight numbers that are one answer of the file reader are equal
 pub file-same : (a b : FileAnswer) → fileOf a ≡ fileOf b → a ≡ b

@@ -1,6 +1,6 @@
 -- The layers' answers and the plain numbers that C is given, one definition for each struct. Assumes nothing: these are definitions.
 use Prim.Native.Nat.{ℕ}
-use Rattle.racks.specs.declared.Answer as racks
+use Rattle.answers.specs.declared.Answer as layers
 use Rattle.slots.specs.declared.Kind.{Kind}
 use Rattle.slots.specs.declared.Kind.the-variants as kind
 use Rattle.slots.specs.declared.State.{State}
@@ -14,7 +14,7 @@ use Rattle.seineflute.specs.declared.FileAnswer.{FileAnswer}
 use Rattle.seineflute.specs.declared.ListingAnswer.{ListingAnswer}
 
 -- the answer that four numbers are
-abbrev pub answerOf : Answer → racks.Answer
+abbrev pub answerOf : Answer → layers.Answer
 answerOf a = record { number = a .number; tally = record { phases = a .phases; moves = a .moves; copies = a .copies } }
 
 -- the number of a kind: 1 user slot, 2 spare, 0 none

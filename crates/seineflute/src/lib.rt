@@ -2,7 +2,7 @@
 // The contracts are the layers' own, with the answer read from the numbers that C is given.
 ghost use mathlib.Core.Path.{_≡_};
 ghost use Rattle.racks.specs.Racks.{ofCaps};
-ghost use Rattle.racks.specs.Answers.{listedOf};
+ghost use Rattle.answers.specs.Answers.{listedOf};
 ghost use Rattle.tables.specs.Check.{checked};
 ghost use Rattle.slots.specs.Slots.{asked};
 ghost use Rattle.phases.specs.Plan.{planned};

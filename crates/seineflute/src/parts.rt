@@ -9,7 +9,7 @@ use slots::Kind;
 use slots::State;
 
 // The number and the counts.
-pub fn numbers_of(answer: racks::Answer) -> Answer
+pub fn numbers_of(answer: answers::Answer) -> Answer
     ensures { λ r. ⌜ answerOf r ≡ answer ⌝ }
 {
     Answer {

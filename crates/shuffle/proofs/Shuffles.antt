@@ -16,9 +16,9 @@ use Rattle.counting.proofs.Checks.{Clear, first-append, first-past, first-here,
 use Rattle.counting.proofs.Checks.Clear.{none, more}
 use Rattle.racks.specs.Racks.{Rack, slots}
 use Rattle.racks.specs.Numbers.{badCount, badBytes, badSize, badPlaces, badCards, badEntries, badTwice, tableChecks, cardChecks, someAway}
-use Rattle.racks.specs.Answers.{copiesOf, answer, noCounts}
-use Rattle.racks.specs.declared.Answer.{Answer}
-use Rattle.racks.specs.declared.Tally.{Tally}
+use Rattle.answers.specs.Answers.{copiesOf, answer, noCounts}
+use Rattle.answers.specs.declared.Answer.{Answer}
+use Rattle.answers.specs.declared.Tally.{Tally}
 use Rattle.moves.specs.Moves.{Held, Outcome, outcome}
 use Rattle.copies.specs.Copies.{copyList}
 use Rattle.shuffle.specs.Shuffle.{brought, lastEntry, lastCard, settledHeld, shuffleChecks, shuffled}

@@ -13,13 +13,13 @@ use Rattle.racks.specs.Limits.{FREE}
 use Rattle.racks.specs.Racks.{Rack, slots, rackOf}
 use Rattle.racks.specs.Table.{dest, free, settled, rackTo, onRack, away}
 use Rattle.racks.specs.Numbers.{tableChecks, noSlot}
-use Rattle.racks.specs.Answers.{answer, noCounts}
+use Rattle.answers.specs.Answers.{answer, noCounts}
 use Rattle.slots.specs.Slots.{kindOf, stateOf, nothing, refusedSlot, slotChecks, asked}
 use Rattle.slots.specs.declared.State.{State}
 use Rattle.slots.specs.declared.State.the-variants as state
 use Rattle.slots.specs.declared.Kind.{Kind}
 use Rattle.slots.specs.declared.SlotAnswer.{SlotAnswer}
-use Rattle.racks.specs.declared.Answer.{Answer}
+use Rattle.answers.specs.declared.Answer.{Answer}
 
 abbrev said-with : Answer → Kind → State → SlotAnswer
 said-with a k s = record { answer = a; slot = record { kind = k; state = s } }

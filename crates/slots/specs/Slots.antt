@@ -6,7 +6,7 @@ use Rattle.counting.specs.Checks.{Check, first, done}
 use Rattle.racks.specs.Racks.{Rack, isUser}
 use Rattle.racks.specs.Table.{free, settled, away, rackTo}
 use Rattle.racks.specs.Numbers.{tableChecks, noSlot}
-use Rattle.racks.specs.Answers.{answer, noCounts}
+use Rattle.answers.specs.Answers.{answer, noCounts}
 use Rattle.slots.specs.declared.Kind.{Kind}
 use Rattle.slots.specs.declared.Kind.the-variants as kind
 use Rattle.slots.specs.declared.State.{State}

@@ -2,7 +2,7 @@
 ghost use mathlib.Core.Path.{_≡_};
 ghost use Rattle.racks.specs.Racks.{ofCaps};
 ghost use Rattle.slots.specs.Slots.{asked};
-use racks::Answer;
+use answers::Answer;
 use racks::Job;
 
 pub mod parts;

@@ -12,7 +12,7 @@ use crate::Kind;
 use crate::Slot;
 use crate::SlotAnswer;
 use crate::State;
-use racks::Answer;
+use answers::Answer;
 use racks::Job;
 
 // A refusal of the slot question: its number, and none.

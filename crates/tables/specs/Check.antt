@@ -4,8 +4,8 @@ use Prim.Native.Nat.{ℕ}
 use Rattle.counting.specs.Checks.{first}
 use Rattle.racks.specs.Racks.{Rack}
 use Rattle.racks.specs.Numbers.{tableChecks}
-use Rattle.racks.specs.Answers.{answer, noCounts}
-use Rattle.racks.specs.declared.Answer.{Answer}
+use Rattle.answers.specs.Answers.{answer, noCounts}
+use Rattle.answers.specs.declared.Answer.{Answer}
 
 -- **Table check.** 0, 1, 3, 4, 5 or 6, and no counts
 unfoldable pub checked : List Rack → List ℕ → Answer

@@ -2,7 +2,7 @@ use mathlib.Core.Path.{_≡_, sym, ap, _∙_}
 use Rattle.counting.specs.Checks.{first}
 use Rattle.racks.specs.Racks.{ofCaps}
 use Rattle.racks.specs.Numbers.{cardChecks}
-use Rattle.racks.specs.Answers.{answer}
+use Rattle.answers.specs.Answers.{answer}
 use Rattle.tables.proofs.Tables.{Open, of-sound, of-cards, open-cards, open-long}
 use Rattle.moves.specs.Parts.{held}
 use Rattle.budgets.proofs.Budgeted.{made-caps, budgeted-refused, budgeted-done}

@@ -3,7 +3,7 @@ use Rattle.copies.proofs.Copied.{front-flat, copied-table, copied-away,
 use Rattle.copies.proofs.Writing.{length-put-copies}
 use Rattle.copies.proofs.Costs.{list-most}
 use Rattle.copies.specs.Chains.{Chained}
-use Rattle.racks.specs.Answers.{answer, listedOf}
+use Rattle.answers.specs.Answers.{answer, listedOf}
 use Rattle.tables.proofs.Tables.{of-sound, of-number}
 use Rattle.racks.specs.Numbers.{tableChecks, someAway}
 use Rattle.racks.specs.Racks.{ofCaps}

@@ -10,7 +10,7 @@ ghost use Rattle.listing.specs.Listing.{copiesLine, cardText, cardsLine,
 ghost use Rattle.listing.specs.Writing.{Room, Wrote, phaseLine};
 use crate::parts::arrows;
 use crate::parts::words;
-use racks::Tally;
+use answers::Tally;
 
 // A phase line, of the pairs that stand at the front of a list.
 pub fn put_phase(out: &mut [u8], at: usize, k: usize, pairs: &[u16], high: usize) -> usize

@@ -14,9 +14,9 @@ ghost use Rattle.budgets.specs.Engine.{Going};
 ghost use Rattle.listing.specs.Listing.{phaseLines};
 ghost use Rattle.listing.specs.Writing.{Room, PhasesPut};
 use crate::parts::lines;
+use answers::Tally;
 use queues::parts::arrivals;
 use racks::Job;
-use racks::Tally;
 
 // The counts of the phases and their moves, and the position behind their lines.
 pub struct Phased {

@@ -16,9 +16,9 @@ use crate::TextAnswer;
 use crate::parts::lines;
 use crate::parts::phasing;
 use crate::parts::words;
-use racks::Answer;
+use answers::Answer;
+use answers::Tally;
 use racks::Job;
-use racks::Tally;
 
 // The line of the copy list of a table with nothing away.
 pub fn put_copy_list(out: &mut [u8], at: usize, places: &[u16]) -> usize

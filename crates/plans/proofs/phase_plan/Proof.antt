@@ -4,7 +4,7 @@ use lib.ListN.{length}
 use lib.Seq.{sets}
 use Rattle.counting.specs.Lists.{flat}
 use Rattle.racks.specs.Racks.{ofCaps}
-use Rattle.racks.specs.Answers.{answer}
+use Rattle.answers.specs.Answers.{answer}
 use Rattle.racks.specs.Job.{racksOf}
 use Rattle.phases.specs.Plan.{plan}
 use Rattle.phases.proofs.Plans.{plan-few}

@@ -5,7 +5,7 @@ ghost use lib.ListN.{length, getD, set};
 ghost use Rattle.plans.specs.Owed.{cell};
 ghost use Rattle.moves.specs.Parts.{pairsIn};
 ghost use Rattle.runs.specs.Kept.{Payable, Paid};
-use racks::Tally;
+use answers::Tally;
 
 // Where the racks of a move stand in a table of 64 by 64 counts.
 fn cell_of(table: &[u8; 4096], from: u16, to: u16) -> usize

@@ -4,8 +4,8 @@ ghost use Rattle.queues.specs.Queues.{rowsOf};
 ghost use Rattle.moves.specs.Parts.{held};
 ghost use Rattle.runs.specs.Gathered.{Set, Gathered};
 use crate::parts::paying;
+use answers::Tally;
 use racks::Job;
-use racks::Tally;
 
 // Phases until nothing is awaited; gives the counts of phases and moves.
 pub fn run_phases(

@@ -1,7 +1,7 @@
 -- `seineflute::seineflute_copy_list` meets its contract. Assumes nothing.
 use mathlib.Core.Path.{ap, _∙_}
-use Rattle.racks.specs.Answers.{listedOf}
-use Rattle.racks.specs.declared.Answer.{Answer}
+use Rattle.answers.specs.Answers.{listedOf}
+use Rattle.answers.specs.declared.Answer.{Answer}
 use borrow.Author.Needs.{needs}
 use Rattle.seineflute.proofs.seineflute_copy_list.Statement.{statement}
 use Rattle.seineflute.proofs.seineflute_copy_list.Tie as tie

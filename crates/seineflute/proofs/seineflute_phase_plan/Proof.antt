@@ -1,7 +1,7 @@
 -- `seineflute::seineflute_phase_plan` meets its contract. Assumes nothing.
 use mathlib.Core.Path.{ap, _∙_}
-use Rattle.racks.specs.Answers.{listedOf}
-use Rattle.racks.specs.declared.Answer.{Answer}
+use Rattle.answers.specs.Answers.{listedOf}
+use Rattle.answers.specs.declared.Answer.{Answer}
 use borrow.Author.Needs.{needs}
 use Rattle.seineflute.proofs.seineflute_phase_plan.Statement.{statement}
 use Rattle.seineflute.proofs.seineflute_phase_plan.Tie as tie

@@ -1,6 +1,6 @@
 -- `seineflute::seineflute_shuffle_cards` meets its contract. Assumes nothing.
 use mathlib.Core.Path.{ap, _∙_}
-use Rattle.racks.specs.declared.Answer.{Answer}
+use Rattle.answers.specs.declared.Answer.{Answer}
 use Rattle.moves.specs.Parts.{outcomeOf}
 use borrow.Author.Needs.{needs}
 use Rattle.seineflute.proofs.seineflute_shuffle_cards.Statement.{statement}

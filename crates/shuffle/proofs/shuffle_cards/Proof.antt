@@ -4,7 +4,7 @@ use Rattle.copies.proofs.Accepted.{accepted, away-known}
 use Rattle.copies.specs.Chains.{Chained}
 use Rattle.tables.proofs.Tables.{of-sound, of-cards}
 use Rattle.racks.proofs.Legal.{legal-long}
-use Rattle.racks.specs.Answers.{answer}
+use Rattle.answers.specs.Answers.{answer}
 use Rattle.racks.specs.Numbers.{cardChecks, someAway}
 use Rattle.racks.specs.Racks.{ofCaps, slots}
 use Rattle.counting.specs.Checks.{first}

@@ -1,5 +1,5 @@
 use mathlib.Core.Path.{ap, _∙_}
-use Rattle.racks.specs.Answers.{answer, noCounts}
+use Rattle.answers.specs.Answers.{answer, noCounts}
 use Rattle.tables.specs.Check.{checked}
 use Rattle.tables.proofs.Tables.{of-sound, of-number}
 use borrow.Author.Needs.{needs}

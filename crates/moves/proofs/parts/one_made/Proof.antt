@@ -1,6 +1,6 @@
 use native.Mathlib.Omega.{arith}
 use mathlib.Core.Path.{ap, _∙_}
-use Rattle.racks.specs.Answers.{answer, plusMove}
+use Rattle.answers.specs.Answers.{answer, plusMove}
 use borrow.Author.Needs.{needs}
 use Rattle.moves.proofs.parts.one_made.Statement.{statement}
 use Rattle.moves.proofs.parts.one_made.Tie as tie

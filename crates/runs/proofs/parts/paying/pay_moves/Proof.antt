@@ -3,7 +3,8 @@ use Prim.Native.Nat.{_+_, _-_, _*_, _≤_}
 use mathlib.Core.Path.{refl}
 use lib.ListN.{length}
 use Rattle.moves.specs.Parts.{pairsIn}
-use Rattle.runs.specs.Kept.{paid, plusMoves}
+use Rattle.runs.specs.Kept.{paid}
+use Rattle.answers.specs.Answers.{plusMoves}
 use Rattle.runs.proofs.Paying.{Paying, Tallying, paying-ends, paying-owed, paying-more, paying-done, tallying-more, tallying-done}
 use Rattle.runs.proofs.parts.paying.pay_moves.Statement.{statement}
 use Rattle.runs.proofs.parts.paying.pay_moves.Tie as tie

@@ -1,7 +1,7 @@
--- `racks::Tally::none` meets its contract. Assumes nothing.
+-- `answers::Tally::none` meets its contract. Assumes nothing.
 use borrow.Author.Needs.{needs}
-use Rattle.racks.proofs.Tally.none.Statement.{statement}
-use Rattle.racks.proofs.Tally.none.Tie as tie
+use Rattle.answers.proofs.Tally.none.Statement.{statement}
+use Rattle.answers.proofs.Tally.none.Tie as tie
 
 of-moves-requires : tie.Need-of-moves-requires
 of-moves-requires c κs = search needs

@@ -1,0 +1,65 @@
+// Answers: the counts and the number that every call gives.
+ghost use mathlib.Core.Path.{_≡_};
+ghost use Rattle.answers.specs.Answers.{noCounts, movesOf, copiesOf, answer};
+
+pub mod parts;
+
+// The counts of phases, moves and copies.
+pub struct Tally {
+    pub phases: usize,
+    pub moves: usize,
+    pub copies: usize,
+}
+
+impl Tally {
+    pub fn none() -> Tally
+        ensures { λ r. ⌜ r ≡ noCounts ⌝ }
+    {
+        Tally::of_moves(0)
+    }
+
+    // The counts of a call that makes or plans so many moves.
+    pub fn of_moves(moves: usize) -> Tally
+        ensures { λ r. ⌜ r ≡ movesOf moves ⌝ }
+    {
+        Tally {
+            phases: 0,
+            moves,
+            copies: 0,
+        }
+    }
+
+    // The counts of a call that makes or lists so many copies.
+    pub fn of_copies(copies: usize) -> Tally
+        ensures { λ r. ⌜ r ≡ copiesOf copies ⌝ }
+    {
+        Tally {
+            phases: 0,
+            moves: 0,
+            copies,
+        }
+    }
+}
+
+// What every call gives: a number of 01's list and the counts.
+pub struct Answer {
+    pub number: u8,
+    pub tally: Tally,
+}
+
+impl Answer {
+    // A number with no counts.
+    pub fn of(number: u8) -> Answer
+        ensures { λ r. ⌜ r ≡ answer number noCounts ⌝ }
+    {
+        let tally = Tally::none();
+        Answer { number, tally }
+    }
+
+    // Done, with the counts.
+    pub fn done(tally: Tally) -> Answer
+        ensures { λ r. ⌜ r ≡ answer 0 tally ⌝ }
+    {
+        Answer { number: 0, tally }
+    }
+}
