@@ -21,7 +21,7 @@ use Rattle.racks.specs.Legal.{Legal}
 use Rattle.racks.proofs.Legal.{table-clear}
 use Rattle.racks.proofs.LegalTable.{legal, legal-checks}
 use Rattle.racks.proofs.Caps.{slots-small}
-use Rattle.moves.proofs.Outcomes.{cards-marked}
+use Rattle.tables.proofs.Tables.{cards-marked}
 use Rattle.demands.specs.Accepted.{Accepted}
 
 module _ (racks : List Rack) (b : ℕ) (places cards : List ℕ) where

@@ -20,7 +20,7 @@ use Rattle.moves.specs.Phases.{budgeted}
 use Rattle.moves.proofs.Carry.{InTurn, in-turn-append, legal-carried, length-carried-cards, carried-append}
 use Rattle.moves.proofs.Carry.InTurn.{stop, next}
 use Rattle.moves.proofs.Ends.{ends-allowed}
-use Rattle.moves.proofs.Outcomes.{cards-marked}
+use Rattle.tables.proofs.Tables.{cards-marked}
 use Rattle.moves.proofs.Phases.{budget-in-turn, budget-length}
 use Rattle.moves.proofs.FirstFit.{first-fit}
 use Rattle.demands.specs.Calls.{Call, called, asks, makes, after, made, counted}

@@ -23,7 +23,7 @@ use Rattle.moves.specs.Moves.{Held, carried}
 use Rattle.moves.specs.Phases.{phases, budget, budgeted}
 use Rattle.moves.proofs.Phases.{phases-in-turn, phases-end, phases-moves, aways-some, aways-none}
 use Rattle.moves.proofs.FirstFit.{first-fit}
-use Rattle.moves.proofs.Outcomes.{cards-marked}
+use Rattle.tables.proofs.Tables.{cards-marked}
 use Rattle.copies.specs.Copies.{copyList}
 use Rattle.copies.proofs.Chains.{chained}
 use Rattle.copies.proofs.OneRack.{one-rack}

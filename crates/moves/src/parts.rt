@@ -4,20 +4,25 @@ ghost use mathlib.Core.List.{[], _∷_};
 ghost use Prim.Native.Nat.{_+_, _*_, _≤_, _<_};
 ghost use lib.ListN.{length};
 ghost use Rattle.counting.specs.Checks.{first};
-ghost use Rattle.racks.specs.Numbers.{tableChecks};
 ghost use Rattle.answers.specs.Answers.{movesOf, answer};
-ghost use Rattle.racks.specs.Job.{racksOf, Sound};
-ghost use Rattle.tables.specs.Tables.{Filled};
+ghost use Rattle.racks.specs.Job.{racksOf, Fit};
+ghost use Rattle.tables.specs.Tables.{Open};
 ghost use Rattle.moves.specs.Blocks.{block, putBlock, blank};
 ghost use Rattle.moves.specs.Moves.{carried, endChecks};
-ghost use Rattle.moves.specs.Parts.{held, pairsIn, AllSlots, moveNumber};
+ghost use Rattle.moves.specs.Parts.{held, outcomeOf, pairsIn, AllSlots, movedBy, MoveChecked};
 use answers::Answer;
 use answers::Tally;
 use racks::Job;
 
 // 7 to 11 for a move on a legal table, or 0.
-fn ends_number(job: Job, places: &[u16], racks: &[u8; 4096], from: usize, to: usize) -> u8
-    requires { ⌜ Sound job × Filled (racksOf job) (now racks) × (first (tableChecks (racksOf job) (now places)) ≡ 0) ⌝ }
+pub fn ends_number(
+    job: Job,
+    places: &[u16],
+    racking: &[u8; Job::MAX_SLOTS],
+    from: usize,
+    to: usize,
+) -> u8
+    requires { ⌜ Open job (now places) (now racking) ⌝ }
     ensures { λ r. ⌜ r ≡ first (endChecks (racksOf job) (now (places .entry)) (from, to)) ⌝ }
 {
     if job.slots <= from {
@@ -30,11 +35,11 @@ fn ends_number(job: Job, places: &[u16], racks: &[u8; 4096], from: usize, to: us
     if x == Job::FREE {
         return 8;
     }
-    let there = racks[x as usize];
-    if racks[from] == there {
+    let there = racking[x as usize];
+    if racking[from] == there {
         return 9;
     }
-    if racks[to] != there {
+    if racking[to] != there {
         return 10;
     }
     if places[to] != Job::FREE {
@@ -44,27 +49,20 @@ fn ends_number(job: Job, places: &[u16], racks: &[u8; 4096], from: usize, to: us
 }
 
 // The number of a move: 1 to 6 for the table and its cards, then 7 to 11.
-pub fn move_number(
-    job: Job,
-    b: usize,
-    places: &[u16],
-    cards: &[u8],
-    racks: &mut [u8; 4096],
-    from: usize,
-    to: usize,
-) -> u8
-    requires { ⌜ (job .refused ≡ 0 → Sound job) ⌝ }
-    ensures { λ r. ⌜ r ≡ moveNumber job b (held (now (places .entry)) (now (cards .entry))) (from, to) ⌝ }
+fn move_number(job: Job, b: usize, places: &[u16], cards: &[u8], from: usize, to: usize) -> u8
+    requires { ⌜ Fit job ⌝ }
+    ensures { λ r. ⌜ MoveChecked job b (held (now (places .entry)) (now (cards .entry))) (from, to) r ⌝ }
 {
-    let number = tables::parts::cards_number(job, b, places, cards, racks);
+    let mut racking = [0u8; Job::MAX_SLOTS];
+    let number = tables::parts::cards_number(job, b, places, cards, &mut racking);
     if number != 0 {
         return number;
     }
-    ends_number(job, places, racks, from, to)
+    ends_number(job, places, &racking, from, to)
 }
 
 // Done, with one move made.
-pub fn one_made() -> Answer
+fn one_made() -> Answer
     ensures { λ r. ⌜ r ≡ answer 0 (movesOf 1) ⌝ }
 {
     let none = Tally::none();
@@ -109,6 +107,26 @@ pub fn move_card(places: &mut [u16], cards: &mut [u8], b: usize, from: usize, to
     places[from] = Job::FREE;
     copy_card(cards, b, from, to);
     blank_card(cards, b, from);
+}
+
+// One move, by the job.
+pub fn move_job(
+    job: Job,
+    b: usize,
+    places: &mut [u16],
+    cards: &mut [u8],
+    from: usize,
+    to: usize,
+) -> Answer
+    requires { ⌜ Fit job ⌝ }
+    ensures { λ r. ⌜ outcomeOf r (now (places .exit)) (now (cards .exit)) ≡ movedBy job b (held (now (places .entry)) (now (cards .entry))) (from, to) ⌝ }
+{
+    let number = move_number(job, b, places, cards, from, to);
+    if number != 0 {
+        return Answer::of(number);
+    }
+    move_card(places, cards, b, from, to);
+    one_made()
 }
 
 // The moves that stand in `pairs` from index `low` up to `high`, from and to of each, in their order.

@@ -6,20 +6,21 @@ use Prim.Native.Nat.{ℕ, _<_}
 use native.Mathlib.Omega.{arith}
 use native.Mathlib.Decide.{decLe}
 use lib.ListN.{length}
-use borrow.Author.Tests.{eq-eqb, ne-eqb, le-ltb}
+use borrow.Author.Tests.{eq-eqb, eqb-true, ne-eqb, le-ltb}
 use Rattle.counting.specs.Checks.{first}
 use Rattle.counting.proofs.Tests.{by-test, both, no-way, not-off, not-off-is, or-on, or-l, or-r, and-off-l, and-off-r}
 use Rattle.counting.proofs.Some.{some-hit, some-none, some-off}
-use Rattle.counting.proofs.Checks.{Clear, clear-first, first-off}
+use Rattle.counting.proofs.Checks.{Clear, clear-first}
 use Rattle.counting.proofs.Checks.Clear.{none, more}
+use Rattle.racks.specs.Limits.{FREE}
 use Rattle.racks.specs.Racks.{Rack, ofCaps, slots, rackOf, spareOf, isUser}
 use Rattle.racks.specs.Table.{dest, free, names}
 use Rattle.racks.specs.Legal.{Legal, Spared}
-use Rattle.racks.specs.Numbers.{badCount, badSize, badPlaces, badEntry, badEntries, repeats, badTwice, tableChecks}
+use Rattle.racks.specs.Numbers.{badPlaces, badEntry, badEntries, repeats, badTwice, placesChecks, tableChecks}
 use Rattle.racks.specs.Job.{rackChecks}
 use Rattle.racks.proofs.Geometry.{base-suc, end-le, spare-is, rack-is, user-is, user-lt}
 use Rattle.racks.proofs.Caps.{length-caps, users-caps, width-caps}
-use Rattle.racks.proofs.Legal.{legal-long, legal-entry, table-clear}
+use Rattle.racks.proofs.Legal.{checks-places, table-none, places-clear}
 
 -- the first spare of rack p
 module _ (racks : List Rack) (s : Spared racks) (p : ℕ) (l : p < length racks) where
@@ -36,37 +37,60 @@ module _ (racks : List Rack) (s : Spared racks) (p : ℕ) (l : p < length racks)
   spare-none = user-is racks (spareOf racks p) spare-lt ∙ rw spare-rack (le-ltb (spareOf racks p) (spareOf racks p) (omega arith))
 
 module _ (racks : List Rack) (places : List ℕ) where
-  -- a table that is not refused
-  module _ (z : first (tableChecks racks places) ≡ 0) where
-    none-twice : (g : ℕ) → g < length places → repeats places g ≡ false
-    unfolding tableChecks badTwice
-    none-twice g l = go (table-clear racks places z)
+  -- a table that is not refused by itself
+  module _ (z : first (placesChecks racks places) ≡ 0) where
+    all-named : length places ≡ slots racks
+    unfolding placesChecks badPlaces
+    all-named = go (places-clear racks places z)
       where
-        go : Clear (tableChecks racks places) → repeats places g ≡ false
-        go (more _ (more _ (more _ (more _ (more t none))))) = some-off (length places) (repeats places) t g l
+        go : Clear (placesChecks racks places) → length places ≡ slots racks
+        go (more t (more _ (more _ none))) = eqb-true _ _ (not-off-is t)
+
+    none-bad : (g : ℕ) → g < length places → badEntry racks places g ≡ false
+    unfolding placesChecks badEntries
+    none-bad g l = go (places-clear racks places z)
+      where
+        go : Clear (placesChecks racks places) → badEntry racks places g ≡ false
+        go (more _ (more t (more _ none))) = some-off (length places) (badEntry racks places) t g l
+
+    none-twice : (g : ℕ) → g < length places → repeats places g ≡ false
+    unfolding placesChecks badTwice
+    none-twice g l = go (places-clear racks places z)
+      where
+        go : Clear (placesChecks racks places) → repeats places g ≡ false
+        go (more _ (more _ (more t none))) = some-off (length places) (repeats places) t g l
 
     -- a later entry names another slot
     later : (g h : ℕ) → g < h → h < slots racks → free places h ≡ false → dest places g ≡ dest places h → ⊥
     unfolding repeats names
     later g h l m f e =
-        no-way (both (not-off f) (some-hit h (names places (dest places h)) g l (eq-eqb _ _ e))) (none-twice h (omega (arith, legal-long racks places z)))
+        no-way (both (not-off f) (some-hit h (names places (dest places h)) g l (eq-eqb _ _ e))) (none-twice h (omega (arith, all-named)))
 
     -- it is legal
-    pub legal : Legal racks places
+    pub places-legal : Legal racks places
     unfolding badEntry free
-    legal =
+    places-legal =
         record {
-          long = legal-long racks places z;
-          named = λ g l f. or-on (free places g) _ (not-off-is (legal-entry racks places z g (omega (arith, legal-long racks places z)))) f;
+          long = all-named;
+          named = λ g l f. or-on (free places g) _ (not-off-is (none-bad g (omega (arith, all-named)))) f;
           once = λ g h l m f e. elim (decLe g h) [
             | yes k ↦ elim (decLe h g) [ yes k′ ↦ omega arith | no k′ ↦ absurd (later g h (omega arith) m (rw e at f) e) ]
             | no k ↦ absurd (later h g (omega arith) l f (sym e))
           ];
         }
 
+  -- nor by its racks
+  pub legal : first (tableChecks racks places) ≡ 0 → Legal racks places
+  legal z = places-legal (table-none racks places z .1)
+
   -- a card's destination is a slot
   pub legal-dest : Legal racks places → (g : ℕ) → g < slots racks → free places g ≡ false → dest places g < slots racks
   legal-dest v g l f = user-lt racks (dest places g) (v .named g l f)
+
+  -- the same, by the tests that code makes
+  pub legal-slot : Legal racks places → (g : ℕ) → g < length places → (dest places g ≡ FREE → ⊥) → dest places g < slots racks
+  unfolding free
+  legal-slot v g l f = legal-dest v g (omega (arith, v .long)) (ne-eqb (dest places g) FREE f)
 
   clean-entry : Legal racks places → (g : ℕ) → g < length places → badEntry racks places g ≡ false
   unfolding badEntry
@@ -81,14 +105,16 @@ module _ (racks : List Rack) (places : List ℕ) where
       by-test (free places g) (λ f. and-off-l _ (ap not f))
       (λ f. and-off-r _ (some-none g (names places (dest places g)) (λ h k. ne-eqb _ _ (λ e. omega (arith, v .once g h m (omega arith) f (sym e))))))
 
-  -- a legal table of racks that are not refused is not refused
+  -- a legal table is not refused by itself
+  pub legal-places : Legal racks places → first (placesChecks racks places) ≡ 0
+  unfolding placesChecks badPlaces badEntries badTwice
+  legal-places v =
+      clear-first (more (ap not (eq-eqb _ _ (v .long)))
+      (more (some-none (length places) (badEntry racks places) (clean-entry v)) (more (some-none (length places) (repeats places) (new-entry v)) none)))
+
+  -- nor, of racks that are not refused, at all
   pub legal-checks : first (rackChecks racks) ≡ 0 → Legal racks places → first (tableChecks racks places) ≡ 0
-  unfolding rackChecks tableChecks badPlaces badEntries badTwice
-  legal-checks z v =
-      let a = first-off (badCount (length racks)) 1 _ (λ e. omega arith) z in
-      let b = first-off (badSize racks) 3 _ (λ e. omega arith) (a .1) in
-      clear-first (more (a .0) (more (b .0) (more (ap not (eq-eqb _ _ (v .long)))
-      (more (some-none (length places) (badEntry racks places) (clean-entry v)) (more (some-none (length places) (repeats places) (new-entry v)) none)))))
+  legal-checks z v = checks-places racks places z ∙ legal-places v
 
 -- racks made from capacities have a spare each
 pub spared-caps : (caps : List ℕ) → Spared (ofCaps caps)

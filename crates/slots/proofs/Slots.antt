@@ -1,18 +1,24 @@
 -- Each case of the slot question. Assumes nothing.
 use mathlib.Core.Path.{_≡_, ap, sym, _∙_}
+use mathlib.Core.Bool.{not}
 use mathlib.Core.List.{List, [], _∷_}
 use Prim.Native.Nat.{ℕ, _≤_, _<_}
 use native.Mathlib.Omega.{arith}
 use lib.ListN.{length}
 use borrow.Author.Tests.{eq-eqb, ne-eqb, le-leb, lt-leb}
-use Rattle.counting.specs.Tests.{_and_, pick}
-use Rattle.counting.specs.Checks.{first, done}
-use Rattle.counting.proofs.Checks.{first-append, first-past, first-here, first-later, first-none}
-use Rattle.racks.proofs.Legal.{legal-long, table-clear}
+use Rattle.counting.specs.Tests.{_and_}
+use Rattle.counting.specs.Checks.{first, refusal}
+use Rattle.counting.proofs.Checks.{first-here, first-later, first-none, refusal-none}
 use Rattle.racks.specs.Limits.{FREE}
-use Rattle.racks.specs.Racks.{Rack, slots, rackOf}
+use Rattle.racks.specs.Racks.{Rack, ofCaps, slots, rackOf}
 use Rattle.racks.specs.Table.{dest, free, settled, rackTo, onRack, away}
-use Rattle.racks.specs.Numbers.{tableChecks, noSlot}
+use Rattle.racks.specs.Numbers.{noSlot}
+use Rattle.racks.specs.Job.{racksOf, jobOf}
+use Rattle.racks.specs.declared.Job.{Job}
+use Rattle.tables.specs.Tables.{tableNumber}
+use Rattle.tables.proofs.Tables.{number-racks, same-racks, of-checks}
+use Rattle.slots.specs.Asked.{said, askedBy}
+use Rattle.slots.specs.declared.Slot.{Slot}
 use Rattle.answers.specs.Answers.{answer, noCounts}
 use Rattle.slots.specs.Slots.{kindOf, stateOf, nothing, refusedSlot, slotChecks, asked}
 use Rattle.slots.specs.declared.State.{State}
@@ -45,38 +51,47 @@ module _ (racks : List Rack) (places : List ℕ) (g : ℕ) where
       state-away d =
           rw (ne-eqb (dest places g) FREE f, ne-eqb (dest places g) g n, ne-eqb (rackOf racks g) (rackOf racks (dest places g)) (λ e. d (eh ∙ e ∙ sym et)), et)
 
-  -- the outcome, by its number
-  outcome : ℕ → SlotAnswer
-  outcome n = record { answer = answer n noCounts; slot = pick (done n) (record { kind = kindOf racks g; state = stateOf racks places g }) nothing }
+-- a refusal, by its number
+pub said-refused : (racks : List Rack) (places : List ℕ) (g n : ℕ) → (n ≡ 0 → ⊥) → refusedSlot n ≡ said racks places g n
+unfolding said
+said-refused racks places g n f = rw (ne-eqb n 0 f)
 
-  by-number : (n : ℕ) → n ≡ first (slotChecks racks places g) → outcome n ≡ asked racks places g
-  unfolding asked outcome
-  by-number n e = ap outcome e
-
-  said : (n : ℕ) → (n ≡ 0 → ⊥) → refusedSlot n ≡ outcome n
-  unfolding outcome
-  said n f = rw (ne-eqb n 0 f)
+-- each case, by a job
+module _ (job : Job) (places : List ℕ) (g : ℕ) where
+  by-number : (n : ℕ) → n ≡ first (refusal (tableNumber job places) ∷ (noSlot (racksOf job) g, 7) ∷ []) → said (racksOf job) places g n ≡ askedBy job places g
+  unfolding askedBy
+  by-number n e = ap (said (racksOf job) places g) e
 
   -- refused by the table
-  pub asked-refused : (n : ℕ) → n ≡ first (tableChecks racks places) → (n ≡ 0 → ⊥) → refusedSlot n ≡ asked racks places g
-  unfolding slotChecks
+  pub asked-refused : (n : ℕ) → n ≡ tableNumber job places → (n ≡ 0 → ⊥) → refusedSlot n ≡ askedBy job places g
   asked-refused n e f =
-      said n f ∙ by-number n (e ∙ sym (first-append (tableChecks racks places) ((noSlot racks g, 7) ∷ []) (λ q. f (e ∙ q))))
+      said-refused (racksOf job) places g n f ∙ by-number n (e ∙ sym (first-here _ (tableNumber job places) _ (ap not (ne-eqb (tableNumber job places) 0 (λ z. f (e ∙ z))))))
 
-  module _ (z : first (tableChecks racks places) ≡ 0) where
-    past : first (slotChecks racks places g) ≡ first ((noSlot racks g, 7) ∷ [])
-    unfolding slotChecks
-    past = first-past ((noSlot racks g, 7) ∷ []) (table-clear racks places z)
+  module _ (z : tableNumber job places ≡ 0) (long : length places ≡ slots (racksOf job)) where
+    past : first (refusal (tableNumber job places) ∷ (noSlot (racksOf job) g, 7) ∷ []) ≡ first ((noSlot (racksOf job) g, 7) ∷ [])
+    past = first-later _ (tableNumber job places) _ (ap not (eq-eqb (tableNumber job places) 0 z))
 
     -- there is no such slot
-    pub asked-past : length places ≤ g → refusedSlot 7 ≡ asked racks places g
+    pub asked-past : length places ≤ g → refusedSlot 7 ≡ askedBy job places g
     unfolding noSlot
     asked-past h =
-        said 7 (λ e. omega arith)
-        ∙ by-number 7 (sym (past ∙ first-here _ 7 [] (le-leb (slots racks) g (omega (arith, legal-long racks places z)))))
+        said-refused (racksOf job) places g 7 (λ e. omega arith)
+        ∙ by-number 7 (sym (past ∙ first-here _ 7 [] (le-leb (slots (racksOf job)) g (omega arith))))
 
     -- what it is and what stands in it
-    pub asked-is : g < length places → (a : Answer) (k : Kind) (s : State) → a ≡ answer 0 noCounts → k ≡ kindOf racks g → s ≡ stateOf racks places g → said-with a k s ≡ asked racks places g
-    unfolding noSlot outcome
+    pub asked-is : g < length places → (a : Answer) (k : Kind) (s : State) → a ≡ answer 0 noCounts → k ≡ kindOf (racksOf job) g → s ≡ stateOf (racksOf job) places g → said-with a k s ≡ askedBy job places g
+    unfolding noSlot said
     asked-is h a k s ea ek es =
-        rw (ea, ek, es) (by-number 0 (sym (past ∙ first-later _ 7 [] (lt-leb (slots racks) g (omega (arith, legal-long racks places z))) ∙ first-none)))
+        rw (ea, ek, es) (by-number 0 (sym (past ∙ first-later _ 7 [] (lt-leb (slots (racksOf job)) g (omega arith)) ∙ first-none)))
+
+-- a job made from capacities answers as they do
+pub asked-by : (caps : List ℕ) (job : Job) → job ≡ jobOf (ofCaps caps) → (places : List ℕ) (g : ℕ) → askedBy job places g ≡ asked (ofCaps caps) places g
+unfolding askedBy asked slotChecks said
+asked-by caps job is places g =
+    let n = first (refusal (tableNumber job places) ∷ (noSlot (racksOf job) g, 7) ∷ []) in
+    ap (λ (s : Slot). record { answer = answer n noCounts; slot = s })
+    (same-racks caps job is n racks-none (λ (r : List Rack). record { kind = kindOf r g; state = stateOf r places g }) nothing)
+    ∙ ap (said (ofCaps caps) places g) (of-checks caps job is places (λ (r : List Rack). (noSlot r g, 7) ∷ []))
+  where
+    racks-none : first (refusal (tableNumber job places) ∷ (noSlot (racksOf job) g, 7) ∷ []) ≡ 0 → job .refused ≡ 0
+    racks-none e = number-racks job places (refusal-none (tableNumber job places) _ e)

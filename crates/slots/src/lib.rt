@@ -38,19 +38,5 @@ pub fn slot_question(caps: &[u16], places: &[u16], g: usize) -> SlotAnswer
     ensures { λ r. ⌜ r ≡ asked (ofCaps (now (caps .entry))) (now (places .entry)) g ⌝ }
 {
     let job = Job::of(caps);
-    let mut racks = [0u8; 4096];
-    let number = tables::parts::table_number(job, places, &mut racks);
-    if number != 0 {
-        return parts::refused(number);
-    }
-    if places.len() <= g {
-        return parts::refused(7);
-    }
-    let answer = Answer::of(0);
-    let kind = parts::kind_of(job, &racks, g);
-    let state = parts::state_of(job, &racks, places, g);
-    SlotAnswer {
-        answer,
-        slot: Slot { kind, state },
-    }
+    parts::ask_job(job, places, g)
 }

@@ -2,12 +2,11 @@
 ghost use mathlib.Core.Path.{_≡_};
 ghost use Prim.Native.Nat.{_<_};
 ghost use lib.ListN.{length};
-ghost use Rattle.counting.specs.Checks.{first};
 ghost use Rattle.racks.specs.Racks.{isUser};
-ghost use Rattle.racks.specs.Numbers.{tableChecks};
-ghost use Rattle.racks.specs.Job.{racksOf, Sound};
-ghost use Rattle.tables.specs.Tables.{Filled};
+ghost use Rattle.racks.specs.Job.{racksOf, Sound, Fit};
+ghost use Rattle.tables.specs.Tables.{Filled, Open};
 ghost use Rattle.slots.specs.Slots.{refusedSlot, kindOf, stateOf};
+ghost use Rattle.slots.specs.Asked.{askedBy};
 use crate::Kind;
 use crate::Slot;
 use crate::SlotAnswer;
@@ -30,32 +29,32 @@ pub fn refused(number: u8) -> SlotAnswer
 }
 
 // Whether g is a user slot.
-pub fn is_user(job: Job, racks: &[u8; 4096], g: usize) -> bool
-    requires { ⌜ Sound job × Filled (racksOf job) (now racks) ⌝ }
+pub fn is_user(job: Job, racking: &[u8; Job::MAX_SLOTS], g: usize) -> bool
+    requires { ⌜ Sound job × Filled (racksOf job) (now racking) ⌝ }
     ensures { λ r. ⌜ r ≡ isUser (racksOf job) g ⌝ }
 {
     if job.slots <= g {
         return false;
     }
-    let p = racks[g] as usize;
+    let p = racking[g] as usize;
     let spare = job.spares[p] as usize;
     g < spare
 }
 
 // User slot or spare.
-pub fn kind_of(job: Job, racks: &[u8; 4096], g: usize) -> Kind
-    requires { ⌜ Sound job × Filled (racksOf job) (now racks) ⌝ }
+pub fn kind_of(job: Job, racking: &[u8; Job::MAX_SLOTS], g: usize) -> Kind
+    requires { ⌜ Sound job × Filled (racksOf job) (now racking) ⌝ }
     ensures { λ r. ⌜ r ≡ kindOf (racksOf job) g ⌝ }
 {
-    if is_user(job, racks, g) {
+    if is_user(job, racking, g) {
         return Kind::User;
     }
     Kind::Spare
 }
 
 // What stands in slot g of a legal table.
-pub fn state_of(job: Job, racks: &[u8; 4096], places: &[u16], g: usize) -> State
-    requires { ⌜ Sound job × Filled (racksOf job) (now racks) × (first (tableChecks (racksOf job) (now places)) ≡ 0) × (g < length (now places)) ⌝ }
+pub fn state_of(job: Job, racking: &[u8; Job::MAX_SLOTS], places: &[u16], g: usize) -> State
+    requires { ⌜ Open job (now places) (now racking) × (g < length (now places)) ⌝ }
     ensures { λ r. ⌜ r ≡ stateOf (racksOf job) (now (places .entry)) g ⌝ }
 {
     let x = places[g];
@@ -66,9 +65,31 @@ pub fn state_of(job: Job, racks: &[u8; 4096], places: &[u16], g: usize) -> State
     if to == g {
         return State::Settled;
     }
-    let there = racks[to];
-    if racks[g] == there {
+    let there = racking[to];
+    if racking[g] == there {
         return State::Unsettled;
     }
     State::Away(there as usize)
+}
+
+// The slot question, by the job.
+pub fn ask_job(job: Job, places: &[u16], g: usize) -> SlotAnswer
+    requires { ⌜ Fit job ⌝ }
+    ensures { λ r. ⌜ r ≡ askedBy job (now (places .entry)) g ⌝ }
+{
+    let mut racking = [0u8; Job::MAX_SLOTS];
+    let number = tables::parts::table_number(job, places, &mut racking);
+    if number != 0 {
+        return refused(number);
+    }
+    if places.len() <= g {
+        return refused(7);
+    }
+    let answer = Answer::of(0);
+    let kind = kind_of(job, &racking, g);
+    let state = state_of(job, &racking, places, g);
+    SlotAnswer {
+        answer,
+        slot: Slot { kind, state },
+    }
 }

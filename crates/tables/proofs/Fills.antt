@@ -1,4 +1,4 @@
--- Laws of filling the tables of bytes: each slot's rack, and the marks of the user slots. Assumes nothing.
+-- Laws of filling lists of bytes: each slot's rack, and the marks of the user slots. Assumes nothing.
 use mathlib.Core.Path.{_≡_, refl, ap, sym, _∙_}
 use mathlib.Core.List.{List}
 use Prim.Native.Nat.{ℕ, suc, _+_, _≤_, _<_}
@@ -11,7 +11,7 @@ use borrow.Author.Tests.{lt-ltb, le-ltb}
 use Rattle.counting.specs.Tests.{bit}
 use Rattle.racks.specs.Racks.{Rack, base, slots, rackOf, spareOf, isUser}
 use Rattle.racks.proofs.Geometry.{rack-is, user-is, user-none, end-le, spare-is, spare-end}
-use Rattle.tables.specs.Tables.{Between, Laid}
+use Rattle.tables.specs.Tables.{Between, Marked}
 
 pub between-none : (low value : ℕ) (t : List ℕ) → Between low low value t t
 between-none low value t = record { inside = λ g l h. absurd (omega arith); below = λ g h. refl; above = λ g h l. refl; long = refl }
@@ -49,8 +49,8 @@ pub record MarkedTo (racks : List Rack) (n : ℕ) (t : List ℕ) : Type 0 where
   pub behind : (g : ℕ) → n ≤ g → g < 4096 → getD t g 0 ≡ 0
 
 module _ (racks : List Rack) where
-  pub marked-none : (n : ℕ) → n ≡ 0 → MarkedTo racks n (replicate 4096 0)
-  marked-none n e = record { marks = λ g l. absurd (omega arith); behind = λ g l h. getD-replicate 4096 g 0 0 h }
+  pub marked-none : (t : List ℕ) → t ≡ replicate 4096 0 → MarkedTo racks 0 t
+  marked-none t e = record { marks = λ g l. absurd (omega arith); behind = λ g l h. rw e (getD-replicate 4096 g 0 0 h) }
 
   -- one rack more
   module _ (small : slots racks ≤ 4096) (p low high : ℕ) (l : p < length racks) (el : low ≡ base racks p) (eh : high ≡ base racks (suc p)) where
@@ -84,13 +84,10 @@ module _ (racks : List Rack) where
             let a : low ≤ g = omega (arith, spare-is racks p, spare-end racks p) in
             b .above g (omega (arith, spare-end racks p)) a ∙ f .behind g a h
 
-  pub laid-all : (t m : List ℕ) (n : ℕ) → n ≡ slots racks → length m ≡ 4096 → FilledTo racks n t → MarkedTo racks n m → Laid racks t m
-  laid-all t m n e long f k =
+  -- all racks are done
+  pub marked-all : (t : List ℕ) (n : ℕ) → n ≡ slots racks → length t ≡ 4096 → MarkedTo racks n t → Marked racks t
+  marked-all t n e long k =
       record {
-        filled = λ g l. f g (omega arith);
-        marked =
-            record {
-              marks = λ g l. elim (decLt g n) [ yes h ↦ k .marks g h | no h ↦ k .behind g (omega arith) l ∙ sym (ap bit (user-none racks g (omega arith))) ];
-              long = long;
-            };
+        marks = λ g l. elim (decLt g n) [ yes h ↦ k .marks g h | no h ↦ k .behind g (omega arith) l ∙ sym (ap bit (user-none racks g (omega arith))) ];
+        long = long;
       }

@@ -1,146 +1,118 @@
--- The number of a table, and of a table with its cards, by the job and by the capacities that it was made from. Assumes nothing.
-use mathlib.Core.Path.{_≡_, refl, ap, sym, _∙_, subst}
+-- The number of a table, and of a table with its cards, by the job and by the capacities that it was made from; what acceptance gives.
+-- Assumes nothing.
+use mathlib.Core.Path.{_≡_, refl, ap, sym, _∙_}
 use mathlib.Core.Bool.{Bool, true, false, not}
-use mathlib.Core.List.{List, [], _∷_}
+use mathlib.Core.List.{List, [], _∷_, _++_}
 use Prim.Native.Nat.{ℕ, _*_, _≤_, _<_}
 use native.Mathlib.Omega.{arith}
 use native.Mathlib.Decide.{ℕ-discrete}
 use lib.Dec.{eqb}
 use lib.ListN.{length}
-use borrow.Author.Tests.{eq-eqb, ne-eqb, eqb-true, lt-ltb, le-ltb}
+use borrow.Author.Tests.{eq-eqb, ne-eqb, lt-ltb, le-ltb}
 use Rattle.counting.specs.Tests.{_or_, pick}
-use Rattle.counting.specs.Checks.{first, refusal}
-use Rattle.counting.proofs.Tests.{or-l, or-r, or-none, or-false, or-off-r, not-off-is, no-way}
-use Rattle.counting.proofs.Checks.{first-here, first-later, first-off}
+use Rattle.counting.specs.Checks.{Check, first, refusal, done}
+use Rattle.counting.proofs.Tests.{or-l, or-r, or-none, or-false, no-way}
+use Rattle.counting.proofs.Checks.{Marked, first-here, first-later, first-off, first-join, first-refusal}
+use Rattle.counting.proofs.Checks.Marked.{more, none}
+use Rattle.answers.specs.Answers.{answer, noCounts}
 use Rattle.racks.specs.Racks.{Rack, ofCaps, slots}
-use Rattle.racks.specs.Numbers.{badCount, badBytes, badSize, badPlaces, badCards, entryChecks, tableChecks, cardChecks}
-use Rattle.tables.specs.Marks.{entriesNumber}
-use Rattle.racks.specs.Job.{rackChecks, racksOf, jobOf, goodJob, Sound}
-use Rattle.tables.specs.Tables.{Filled, tableNumber, cardsNumber, Checked, CardsChecked}
+use Rattle.racks.specs.Numbers.{badCount, badBytes, badSize, badPlaces, badCards, entryChecks, placesChecks, tableChecks, cardChecks}
+use Rattle.racks.specs.Job.{rackChecks, racksOf, jobOf, Sound, Fit}
 use Rattle.racks.specs.declared.Job.{Job}
-use Rattle.racks.proofs.Jobs.{sound-refused, sound-slots, racks-again, job-good, job-none, caps-sound}
-use Rattle.racks.proofs.Legal.{racks-good, checks-racks, checks-4, checks-entries}
+use Rattle.racks.proofs.Jobs.{sound-refused, sound-slots, of-refused, of-racks}
+use Rattle.racks.proofs.Legal.{racks-good, checks-racks, checks-places, checks-4, checks-entries}
+use Rattle.racks.proofs.LegalTable.{places-legal}
+use Rattle.tables.specs.Check.{checked}
+use Rattle.tables.specs.Marks.{entriesNumber}
+use Rattle.tables.specs.Tables.{Filled, Checked, CardsChecked, tableNumber, cardsNumber, checkedBy}
 
 module _ (job : Job) (places : List ℕ) where
+  -- past what the racks are refused with
+  past : job .refused ≡ 0 → tableNumber job places ≡ first (placesChecks (racksOf job) places)
+  unfolding tableNumber
+  past z = first-later _ (job .refused) _ (ap not (eq-eqb (job .refused) 0 z))
+
   pub by-refused : (job .refused ≡ 0 → ⊥) → job .refused ≡ tableNumber job places
   unfolding tableNumber
-  by-refused f = rw (ne-eqb (job .refused) 0 f)
+  by-refused f = sym (first-here _ (job .refused) _ (ap not (ne-eqb (job .refused) 0 f)))
 
-  by-table : job .refused ≡ 0 → first (tableChecks (racksOf job) places) ≡ tableNumber job places
-  unfolding tableNumber
-  by-table z = rw (eq-eqb (job .refused) 0 z)
+  module _ (s : Sound job) where
+    pub by-4 : (length places ≡ job .slots → ⊥) → 4 ≡ tableNumber job places
+    by-4 f = checks-4 (racksOf job) places (λ e. f (e ∙ sym (sound-slots job s))) ∙ sym (past (sound-refused job s))
 
-  pub by-4 : Sound job → (length places ≡ job .slots → ⊥) → 4 ≡ tableNumber job places
-  by-4 s f = checks-4 (racksOf job) places (s .good) (λ e. f (e ∙ sym (sound-slots job s))) ∙ by-table (sound-refused job s)
-
-  pub by-entries : Sound job → length places ≡ job .slots → entriesNumber (racksOf job) places ≡ tableNumber job places
-  unfolding entriesNumber
-  by-entries s e = checks-entries (racksOf job) places (s .good) (e ∙ sound-slots job s) ∙ by-table (sound-refused job s)
+    pub by-entries : length places ≡ job .slots → entriesNumber (racksOf job) places ≡ tableNumber job places
+    unfolding entriesNumber
+    by-entries e = checks-entries (racksOf job) places (e ∙ sound-slots job s) ∙ sym (past (sound-refused job s))
 
   -- a table that is not refused is of racks that are not
   pub number-racks : tableNumber job places ≡ 0 → job .refused ≡ 0
   number-racks z = elim (ℕ-discrete (job .refused) 0) [ yes e ↦ e | no f ↦ by-refused f ∙ z ]
 
--- what racks that are refused with n and cards of B bytes are refused with: 2 stands between 1 and 3
-unfoldable pub refusedWith : ℕ → ℕ → ℕ
-refusedWith b n = first ((eqb n 1, 1) ∷ (badBytes b, 2) ∷ refusal n ∷ [])
+  -- what a table that is refused is checked to be, and one whose racks are known
+  module _ (n : ℕ) (racking : List ℕ) (is : n ≡ tableNumber job places) where
+    pub checked-refused : (n ≡ 0 → ⊥) → Checked job places n racking
+    checked-refused f = record { number-is = is; opened = λ z. absurd (f z) }
 
-checks-refused : (racks : List Rack) (b : ℕ) (places cards : List ℕ) → (first (rackChecks racks) ≡ 0 → ⊥) → refusedWith b (first (rackChecks racks)) ≡ first (cardChecks racks b places cards)
-unfolding refusedWith rackChecks cardChecks first
-checks-refused racks b places cards f = go _ (badCount (length racks)) (badSize racks) (badBytes b) f
-  where
-    go : (x : ℕ) (a c d : Bool) → (_≡_ {A = ℕ} (pick a 1 (pick c 3 0)) 0 → ⊥)
-        → _≡_ {A = ℕ} (pick (eqb (pick a 1 (pick c 3 0)) 1) 1 (pick d 2 (pick (not (eqb (pick a 1 (pick c 3 0)) 0)) (pick a 1 (pick c 3 0)) 0))) (pick a 1 (pick d 2 (pick c 3 x)))
-    go x true c d f = refl
-    go x false true d f = refl
-    go x false false d f = absurd (f refl)
+    pub checked-filled : Fit job → Filled (racksOf job) racking → Checked job places n racking
+    checked-filled fit filled =
+        record {
+          number-is = is;
+          opened = λ z.
+              let r = number-racks (sym is ∙ z) in
+              record { sound = fit r; legal = places-legal (racksOf job) places (sym (past r) ∙ sym is ∙ z); filled = filled };
+        }
 
 module _ (job : Job) (b : ℕ) (places cards : List ℕ) where
-  pub cards-checks : job .refused ≡ 0 → first (cardChecks (racksOf job) b places cards) ≡ cardsNumber job b places cards
-  unfolding cardsNumber
-  cards-checks z = rw (eq-eqb (job .refused) 0 z)
-
-  pub cards-refused : (job .refused ≡ 0 → ⊥) → refusedWith b (job .refused) ≡ cardsNumber job b places cards
-  unfolding cardsNumber refusedWith
-  cards-refused f = rw (ne-eqb (job .refused) 0 f)
-
   pub cards-1 : job .refused ≡ 1 → 1 ≡ cardsNumber job b places cards
-  unfolding refusedWith
-  cards-1 e = sym (first-here _ 1 _ (eq-eqb (job .refused) 1 e)) ∙ cards-refused (λ z. omega arith)
+  unfolding cardsNumber
+  cards-1 e = sym (first-here _ 1 _ (eq-eqb (job .refused) 1 e))
 
-  module _ (s : job .refused ≡ 0 → Sound job) (n : job .refused ≡ 1 → ⊥) where
+  module _ (n : job .refused ≡ 1 → ⊥) where
     pub cards-2 : badBytes b ≡ true → 2 ≡ cardsNumber job b places cards
-    unfolding cardChecks refusedWith
-    cards-2 h = elim (ℕ-discrete (job .refused) 0) [
-      | yes z ↦ sym (first-later _ 1 _ (racks-good (racksOf job) (s z .good) .0) ∙ first-here _ 2 _ h) ∙ cards-checks z
-      | no f ↦ sym (first-later _ 1 _ (ne-eqb (job .refused) 1 n) ∙ first-here _ 2 _ h) ∙ cards-refused f
-    ]
+    unfolding cardsNumber
+    cards-2 h = sym (first-later _ 1 _ (ne-eqb (job .refused) 1 n) ∙ first-here _ 2 _ h)
 
     pub cards-3 : badBytes b ≡ false → (job .refused ≡ 0 → ⊥) → job .refused ≡ cardsNumber job b places cards
-    unfolding refusedWith
+    unfolding cardsNumber
     cards-3 h f =
         sym (first-later _ 1 _ (ne-eqb (job .refused) 1 n) ∙ first-later _ 2 _ h ∙ first-here _ (job .refused) _ (ap not (ne-eqb (job .refused) 0 f)))
-        ∙ cards-refused f
+
+  -- past what the racks and B are refused with
+  past-3 : job .refused ≡ 0 → badBytes b ≡ false → cardsNumber job b places cards ≡ first ((badPlaces (racksOf job) places or badCards (racksOf job) b cards, 4) ∷ entryChecks (racksOf job) places)
+  unfolding cardsNumber
+  past-3 z h =
+      first-later _ 1 _ (ne-eqb (job .refused) 1 (λ e. omega arith)) ∙ first-later _ 2 _ h ∙ first-later _ (job .refused) _ (ap not (eq-eqb (job .refused) 0 z))
 
   module _ (s : Sound job) (h : badBytes b ≡ false) where
-    past-3 : first ((badPlaces (racksOf job) places or badCards (racksOf job) b cards, 4) ∷ entryChecks (racksOf job) places) ≡ cardsNumber job b places cards
-    unfolding cardChecks
-    past-3 =
-        let r = racks-good (racksOf job) (s .good) in
-        sym (first-later _ 1 _ (r .0) ∙ first-later _ 2 _ h ∙ first-later _ 3 _ (r .1)) ∙ cards-checks (sound-refused job s)
-
     pub cards-4 : (length cards ≡ job .slots * b → ⊥) → 4 ≡ cardsNumber job b places cards
     unfolding badCards
     cards-4 f =
         let g : length cards ≡ slots (racksOf job) * b → ⊥ = λ e. f (e ∙ ap (λ (n : ℕ). n * b) (sym (sound-slots job s))) in
-        sym (first-here _ 4 _ (or-r (badPlaces (racksOf job) places) (ap not (ne-eqb (length cards) (slots (racksOf job) * b) g)))) ∙ past-3
+        sym (past-3 (sound-refused job s) h ∙ first-here _ 4 _ (or-r (badPlaces (racksOf job) places) (ap not (ne-eqb (length cards) (slots (racksOf job) * b) g))))
 
     pub cards-table : length cards ≡ job .slots * b → tableNumber job places ≡ cardsNumber job b places cards
-    unfolding badCards tableChecks
+    unfolding badCards placesChecks
     cards-table e =
-        let r = racks-good (racksOf job) (s .good) in
         let q : length cards ≡ slots (racksOf job) * b = e ∙ ap (λ (n : ℕ). n * b) (sound-slots job s) in
-        sym (by-table job places (sound-refused job s))
-        ∙ first-later _ 1 _ (r .0)
-        ∙ first-later _ 3 _ (r .1)
+        past job places (sound-refused job s)
         ∙ ap (λ (x : Bool). first ((x, 4) ∷ entryChecks (racksOf job) places))
         (sym (or-false (badPlaces (racksOf job) places) (ap not (eq-eqb (length cards) (slots (racksOf job) * b) q))))
-        ∙ past-3
+        ∙ sym (past-3 (sound-refused job s) h)
 
--- what is known where a table and its cards get no number
-pub record Accepted (job : Job) (b : ℕ) (places cards : List ℕ) : Type 0 where
-  pub sound : Sound job
-  pub table : first (tableChecks (racksOf job) places) ≡ 0
-  pub cards-long : length cards ≡ slots (racksOf job) * b
-  pub bytes : badBytes b ≡ false
+  -- what a table with cards that is refused is checked to be
+  pub cards-checked-refused : (n : ℕ) (racking : List ℕ) → n ≡ cardsNumber job b places cards → (n ≡ 0 → ⊥) → CardsChecked job b places cards n racking
+  cards-checked-refused n racking is f = record { number-is = is; opened = λ z. absurd (f z) }
 
-module _ (job : Job) (b : ℕ) (places cards : List ℕ) (z : cardsNumber job b places cards ≡ 0) where
-  refused-none : job .refused ≡ 0
-  unfolding refusedWith
-  refused-none = elim (ℕ-discrete (job .refused) 0) [
+  -- a table with cards that is not refused is of racks that are not
+  pub cards-racks : cardsNumber job b places cards ≡ 0 → job .refused ≡ 0
+  unfolding cardsNumber
+  cards-racks z = elim (ℕ-discrete (job .refused) 0) [
     | yes e ↦ e
     | no f ↦
-        let a = first-off (eqb (job .refused) 1) 1 _ (λ e. omega arith) (cards-refused job b places cards f ∙ z) in
+        let a = first-off (eqb (job .refused) 1) 1 _ (λ e. omega arith) z in
         let c = first-off (badBytes b) 2 _ (λ e. omega arith) (a .1) in
-        absurd (no-way (ap not (ne-eqb (job .refused) 0 f)) (first-off (not (eqb (job .refused) 0)) (job .refused) [] f (c .1) .0))
+        absurd (no-way (ap not (ne-eqb (job .refused) 0 f)) (first-off (not (eqb (job .refused) 0)) (job .refused) _ f (c .1) .0))
   ]
-
-  pub accepted : (job .refused ≡ 0 → Sound job) → Accepted job b places cards
-  unfolding cardChecks badCards
-  accepted s =
-      let r = racksOf job in
-      let a = first-off (badCount (length r)) 1 _ (λ e. omega arith) (cards-checks job b places cards refused-none ∙ z) in
-      let c = first-off (badBytes b) 2 _ (λ e. omega arith) (a .1) in
-      let d = first-off (badSize r) 3 _ (λ e. omega arith) (c .1) in
-      let e = first-off (badPlaces r places or badCards r b cards) 4 _ (λ e. omega arith) (d .1) in
-      let long : length cards ≡ slots r * b = eqb-true (length cards) (slots r * b) (not-off-is (or-off-r (badPlaces r places) (e .0))) in
-      let is : length cards ≡ job .slots * b = long ∙ ap (λ (n : ℕ). n * b) (sym (sound-slots job (s refused-none))) in
-      record {
-        sound = s refused-none;
-        table = by-table job places refused-none ∙ cards-table job b places cards (s refused-none) (c .0) is ∙ z;
-        cards-long = long;
-        bytes = c .0;
-      }
 
 -- B, by the code's tests
 pub bytes-none : (b : ℕ) → b ≡ 0 → badBytes b ≡ true
@@ -155,70 +127,90 @@ pub bytes-good : (b : ℕ) → (b ≡ 0 → ⊥) → b ≤ 256 → badBytes b �
 unfolding badBytes
 bytes-good b f l = or-none (ne-eqb b 0 f) (le-ltb 256 b l)
 
+-- no check gives 0
+given : (n : ℕ) → 0 < n → n ≡ 0 → ⊥
+given n l e = omega arith
+
+table-marked : (racks : List Rack) (places : List ℕ) → Marked (tableChecks racks places)
+unfolding tableChecks
+table-marked racks places =
+    more (given 1 (omega arith)) (more (given 3 (omega arith)) (more (given 4 (omega arith)) (more (given 5 (omega arith)) (more (given 6 (omega arith)) none))))
+
+pub cards-marked : (racks : List Rack) (b : ℕ) (places cards : List ℕ) → Marked (cardChecks racks b places cards)
+unfolding cardChecks
+cards-marked racks b places cards =
+    more (given 1 (omega arith))
+    (more (given 2 (omega arith)) (more (given 3 (omega arith)) (more (given 4 (omega arith)) (more (given 5 (omega arith)) (more (given 6 (omega arith)) none)))))
+
+-- 1, 2 and 3, by the number that the racks are refused with
+by-number : (n : ℕ) (racks : List Rack) (b : ℕ) (rest : List Check) → n ≡ first (rackChecks racks)
+    → first ((eqb n 1, 1) ∷ (badBytes b, 2) ∷ refusal n ∷ rest) ≡ first ((badCount (length racks), 1) ∷ (badBytes b, 2) ∷ (badSize racks, 3) ∷ rest)
+unfolding rackChecks first
+by-number n racks b rest e = rw e (go (badCount (length racks)) (badSize racks) (badBytes b) (first rest))
+  where
+    go : (a c d : Bool) (x : ℕ)
+        → _≡_ {A = ℕ} (pick (eqb (pick a 1 (pick c 3 0)) 1) 1 (pick d 2 (pick (not (eqb (pick a 1 (pick c 3 0)) 0)) (pick a 1 (pick c 3 0)) x))) (pick a 1 (pick d 2 (pick c 3 x)))
+    go true c d x = refl
+    go false true d x = refl
+    go false false d x = refl
+
+-- where they are refused, what comes after is not looked at
+none-after : (n b : ℕ) (xs ys : List Check) → (n ≡ 0 → ⊥)
+    → first ((eqb n 1, 1) ∷ (badBytes b, 2) ∷ refusal n ∷ xs) ≡ first ((eqb n 1, 1) ∷ (badBytes b, 2) ∷ refusal n ∷ ys)
+unfolding first
+none-after n b xs ys f = rw (ne-eqb n 0 f)
+
 -- a job made from capacities
 module _ (caps : List ℕ) (job : Job) (is : job ≡ jobOf (ofCaps caps)) where
-  not-refused : job .refused ≡ 0 → first (rackChecks (ofCaps caps)) ≡ 0
-  not-refused z = elim (ℕ-discrete (first (rackChecks (ofCaps caps))) 0) [
-    | yes e ↦ e
-    | no f ↦ sym (ap (λ (j : Job). j .refused) (is ∙ job-none (ofCaps caps) f)) ∙ z
-  ]
-
-  good : job .refused ≡ 0 → job ≡ goodJob (ofCaps caps)
-  good z = is ∙ job-good (ofCaps caps) (not-refused z)
-
-  pub of-sound : job .refused ≡ 0 → Sound job
-  of-sound z = subst Sound (sym (good z)) (caps-sound caps (not-refused z))
-
-  pub of-racks : job .refused ≡ 0 → racksOf job ≡ ofCaps caps
-  of-racks z = ap racksOf (good z) ∙ racks-again (ofCaps caps) (not-refused z)
-
-  refused-is : (job .refused ≡ 0 → ⊥) → job .refused ≡ first (rackChecks (ofCaps caps))
-  refused-is f = elim (ℕ-discrete (first (rackChecks (ofCaps caps))) 0) [
-    | yes z ↦ absurd (f (ap (λ (j : Job). j .refused) (is ∙ job-good (ofCaps caps) z)))
-    | no n ↦ ap (λ (j : Job). j .refused) (is ∙ job-none (ofCaps caps) n)
-  ]
-
   -- the table's number is that of the capacities' racks
   pub of-number : (places : List ℕ) → tableNumber job places ≡ first (tableChecks (ofCaps caps) places)
   of-number places = elim (ℕ-discrete (job .refused) 0) [
-    | yes z ↦ sym (by-table job places z) ∙ ap (λ (r : List Rack). first (tableChecks r places)) (of-racks z)
-    | no f ↦ sym (by-refused job places f) ∙ refused-is f ∙ checks-racks (ofCaps caps) places (λ z. f (refused-is f ∙ z))
+    | yes z ↦
+        past job places z
+        ∙ ap (λ (r : List Rack). first (placesChecks r places)) (of-racks caps job is z)
+        ∙ sym (checks-places (ofCaps caps) places (sym (of-refused caps job is) ∙ z))
+    | no f ↦ sym (by-refused job places f) ∙ of-refused caps job is ∙ checks-racks (ofCaps caps) places (λ z. f (of-refused caps job is ∙ z))
   ]
 
   -- and so with cards
   pub of-cards : (b : ℕ) (places cards : List ℕ) → cardsNumber job b places cards ≡ first (cardChecks (ofCaps caps) b places cards)
-  of-cards b places cards = elim (ℕ-discrete (job .refused) 0) [
-    | yes z ↦ sym (cards-checks job b places cards z) ∙ ap (λ (r : List Rack). first (cardChecks r b places cards)) (of-racks z)
-    | no f ↦ sym (cards-refused job b places cards f) ∙ ap (refusedWith b) (refused-is f) ∙ checks-refused (ofCaps caps) b places cards (λ z. f (refused-is f ∙ z))
+  unfolding cardsNumber cardChecks
+  of-cards b places cards =
+      elim (ℕ-discrete (job .refused) 0) [
+        | yes z ↦ ap (λ (r : List Rack). first ((eqb (job .refused) 1, 1) ∷ (badBytes b, 2) ∷ refusal (job .refused) ∷ rest r)) (of-racks caps job is z)
+        | no f ↦ none-after (job .refused) b (rest (racksOf job)) (rest (ofCaps caps)) f
+      ]
+      ∙ by-number (job .refused) (ofCaps caps) b (rest (ofCaps caps)) (of-refused caps job is)
+    where
+      rest : List Rack → List Check
+      rest r = (badPlaces r places or badCards r b cards, 4) ∷ entryChecks r places
+
+  -- the table check is that of the capacities
+  pub checked-by : (places : List ℕ) → checkedBy job places ≡ checked (ofCaps caps) places
+  unfolding checkedBy checked
+  checked-by places = ap (λ (n : ℕ). answer n noCounts) (of-number places)
+
+  -- what a refusal does not look at is the same by the job and by the capacities
+  pub same-racks : {A : Type 0} (n : ℕ) → (n ≡ 0 → job .refused ≡ 0) → (x : List Rack → A) (y : A) → pick (done n) (x (racksOf job)) y ≡ pick (done n) (x (ofCaps caps)) y
+  same-racks n z x y = elim (ℕ-discrete n 0) [
+    | yes e ↦ ap (λ (r : List Rack). pick (done n) (x r) y) (of-racks caps job is (z e))
+    | no f ↦ rw (ne-eqb n 0 f)
   ]
 
--- what a call knows of capacities and a table that get no number
-pub record Open (caps : List ℕ) (job : Job) (places table : List ℕ) : Type 0 where
-  pub sound : Sound job
-  pub filled : Filled (racksOf job) table
-  pub legal : first (tableChecks (racksOf job) places) ≡ 0
-  pub racks : racksOf job ≡ ofCaps caps
-  pub legal-caps : first (tableChecks (ofCaps caps) places) ≡ 0
+  -- further checks after those of the table
+  module _ (places : List ℕ) (rest : List Rack → List Check) where
+    pub of-checks : first (refusal (tableNumber job places) ∷ rest (racksOf job)) ≡ first (tableChecks (ofCaps caps) places ++ rest (ofCaps caps))
+    of-checks =
+        first-refusal (tableNumber job places) (rest (racksOf job))
+        ∙ same-racks (tableNumber job places) (number-racks job places) (λ (r : List Rack). first (rest r)) (tableNumber job places)
+        ∙ ap (λ (n : ℕ). pick (done n) (first (rest (ofCaps caps))) n) (of-number places)
+        ∙ sym (first-join (rest (ofCaps caps)) (table-marked (ofCaps caps) places))
 
-module _ (caps : List ℕ) (job : Job) (is : job ≡ jobOf (ofCaps caps)) (places table : List ℕ) where
-  open-racks : job .refused ≡ 0 → Filled (racksOf job) table → first (tableChecks (racksOf job) places) ≡ 0 → Open caps job places table
-  open-racks r f z =
-      let e = of-racks caps job is r in
-      record { sound = of-sound caps job is r; filled = f; legal = z; racks = e; legal-caps = subst (λ (k : List Rack). first (tableChecks k places) ≡ 0) e z }
-
-  -- a table that gets no number
-  pub open-table : (n : ℕ) → Checked job places n table → n ≡ 0 → Open caps job places table
-  open-table n c z =
-      let t : tableNumber job places ≡ 0 = sym (c .number-is) ∙ z in
-      let r = number-racks job places t in
-      open-racks r (c .filled z) (by-table job places r ∙ t)
-
-  -- a table with cards that gets none
-  pub open-cards : (b : ℕ) (cards : List ℕ) (n : ℕ) → CardsChecked job b places cards n table → n ≡ 0 → Open caps job places table
-  open-cards b cards n c z =
-      let a = accepted job b places cards (sym (c .number-is) ∙ z) (of-sound caps job is) in
-      open-racks (sound-refused job (a .sound)) (c .filled z) (a .table)
-
-  -- and its cards are S·B long
-  pub open-long : (b : ℕ) (cards : List ℕ) (n : ℕ) → CardsChecked job b places cards n table → n ≡ 0 → length cards ≡ slots (racksOf job) * b
-  open-long b cards n c z = accepted job b places cards (sym (c .number-is) ∙ z) (of-sound caps job is) .cards-long
+  -- and after those of the table and its cards
+  module _ (b : ℕ) (places cards : List ℕ) (rest : List Rack → List Check) where
+    pub of-card-checks : first (refusal (cardsNumber job b places cards) ∷ rest (racksOf job)) ≡ first (cardChecks (ofCaps caps) b places cards ++ rest (ofCaps caps))
+    of-card-checks =
+        first-refusal (cardsNumber job b places cards) (rest (racksOf job))
+        ∙ same-racks (cardsNumber job b places cards) (cards-racks job b places cards) (λ (r : List Rack). first (rest r)) (cardsNumber job b places cards)
+        ∙ ap (λ (n : ℕ). pick (done n) (first (rest (ofCaps caps))) n) (of-cards b places cards)
+        ∙ sym (first-join (rest (ofCaps caps)) (cards-marked (ofCaps caps) b places cards))

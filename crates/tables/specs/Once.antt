@@ -7,24 +7,18 @@ use Prim.Native.Nat.{ℕ, _+_, _≤_}
 use lib.Dec.{eqb, ltb}
 use lib.ListN.{length, getD, set}
 use Rattle.counting.specs.Tests.{pick}
-use Rattle.racks.specs.Limits.{FREE}
+use Rattle.racks.specs.Limits.{SLOTS, MARKS, FREE}
 use Rattle.racks.specs.Racks.{Rack, slots, isUser}
-use Rattle.tables.specs.Tables.{Filled}
 
 -- where the mark of slot g's entry x stands, of S slots: a free slot has one of its own past all of them; what names no slot has the one
 -- behind the last
 unfoldable pub placeOf : ℕ → ℕ → ℕ → ℕ
-placeOf S g x = pick (eqb x FREE) (4097 + g) (pick (ltb S x) S x)
+placeOf S g x = pick (eqb x FREE) (SLOTS + 1 + g) (pick (ltb S x) S x)
 
 -- an open mark, 1, is that of a user slot
 pub record OnceMarked (racks : List Rack) (marks : List ℕ) : Type 0 where
   pub users : (v : ℕ) → v ≤ slots racks → getD marks v 0 ≡ 1 → isUser racks v ≡ true
-  pub long : length marks ≡ 8193
-
--- both tables that the quick pass needs
-pub record Opened (racks : List Rack) (table marks : List ℕ) : Type 0 where
-  pub filled : Filled racks table
-  pub marked : OnceMarked racks marks
+  pub long : length marks ≡ MARKS
 
 -- the mark at a place is shut; whether it was open
 pub record MarkTaken (marks : List ℕ) (at : ℕ) (fits : Bool) (after : List ℕ) : Type 0 where

@@ -12,7 +12,5 @@ pub fn check_table(caps: &[u16], places: &[u16]) -> Answer
     ensures { λ r. ⌜ r ≡ checked (ofCaps (now (caps .entry))) (now (places .entry)) ⌝ }
 {
     let job = Job::of(caps);
-    let mut racks = [0u8; 4096];
-    let number = parts::table_number(job, places, &mut racks);
-    Answer::of(number)
+    parts::check_job(job, places)
 }

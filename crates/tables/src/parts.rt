@@ -1,13 +1,15 @@
-// What the layers above share: each slot's rack in a table of bytes, and the number of a lent table.
+// What the layers above share: each slot's rack in a list of bytes, and the number of a lent table.
 ghost use mathlib.Core.Path.{_≡_};
 ghost use mathlib.Core.Bool.{true};
 ghost use Prim.Native.Nat.{_≤_, _<_};
-ghost use lib.ListN.{length};
-ghost use Rattle.racks.specs.Job.{racksOf, Sound};
-ghost use Rattle.tables.specs.Tables.{namedSlot, Laid, Marked, Between, Checked, CardsChecked};
-ghost use Rattle.tables.specs.Marks.{Entered, entriesNumber, worse};
-ghost use Rattle.tables.specs.Once.{placeOf, MarkTaken, Opened, OnceMarked};
+ghost use lib.ListN.{length, replicate};
 ghost use Rattle.counting.specs.Tests.{bit, _and_};
+ghost use Rattle.racks.specs.Limits.{SLOTS, MARKS};
+ghost use Rattle.racks.specs.Job.{racksOf, Sound, Fit};
+ghost use Rattle.tables.specs.Tables.{namedSlot, Filled, Marked, Between, Checked, CardsChecked, checkedBy};
+ghost use Rattle.tables.specs.Marks.{Entered, entriesNumber, worse};
+ghost use Rattle.tables.specs.Once.{placeOf, MarkTaken, OnceMarked};
+use answers::Answer;
 use racks::Job;
 
 // The slot that an entry names; a free slot's own. Two returns that become one choice, not a branch: in a table where free and taken slots
@@ -31,48 +33,60 @@ pub fn one_if(test: bool) -> u16
     0
 }
 
-// One value from `low` up to `high` in a table of bytes.
-pub fn fill(table: &mut [u8; 4096], low: usize, high: usize, value: u8)
-    requires { ⌜ (high ≤ 4096) × (length (now table) ≡ 4096) ⌝ }
-    ensures { λ _. ⌜ Between low high value (now (table .entry)) (now (table .exit)) ⌝ }
+// One value from `low` up to `high` in a list of bytes.
+fn fill(list: &mut [u8], low: usize, high: usize, value: u8)
+    requires { ⌜ high ≤ length (now list) ⌝ }
+    ensures { λ _. ⌜ Between low high value (now (list .entry)) (now (list .exit)) ⌝ }
 {
     let mut g = low;
     while g < high {
-        table[g] = value;
+        list[g] = value;
         g = g + 1;
     }
 }
 
-// Each slot's rack into one table, and 1 for each user slot into the other.
-pub fn fill_tables(job: Job, table: &mut [u8; 4096], marks: &mut [u8; 4096])
-    requires { ⌜ Sound job ⌝ }
-    ensures { λ _. ⌜ Laid (racksOf job) (now (table .exit)) (now (marks .exit)) ⌝ }
+// Each slot's rack. What stands behind the last slot is left.
+pub fn fill_racking(job: Job, racking: &mut [u8; Job::MAX_SLOTS])
+    requires { ⌜ Sound job × (length (now racking) ≡ SLOTS) ⌝ }
+    ensures { λ _. ⌜ Filled (racksOf job) (now (racking .exit)) ⌝ }
 {
-    *table = [0; 4096];
-    *marks = [0; 4096];
     let n = job.racks;
     let mut low: usize = 0;
     let mut p: usize = 0;
     while p < n {
-        let spare = job.spares[p] as usize;
         let end = job.ends[p] as usize;
-        fill(table, low, end, p as u8);
-        fill(marks, low, spare, 1);
+        fill(racking, low, end, p as u8);
         low = end;
         p = p + 1;
     }
 }
 
+// 1 for each user slot, where all marks are 0.
+pub fn mark_users(job: Job, marks: &mut [u8; Job::MAX_SLOTS])
+    requires { ⌜ Sound job × (now marks ≡ replicate SLOTS 0) ⌝ }
+    ensures { λ _. ⌜ Marked (racksOf job) (now (marks .exit)) ⌝ }
+{
+    let n = job.racks;
+    let mut low: usize = 0;
+    let mut p: usize = 0;
+    while p < n {
+        let spare = job.spares[p] as usize;
+        fill(marks, low, spare, 1);
+        low = job.ends[p] as usize;
+        p = p + 1;
+    }
+}
+
 // The number of one entry: 5 where it names no user slot, 6 where that slot is named already; it is named from now on.
-pub fn entry_number(marks: &mut [u8; 4096], x: u16) -> u8
-    requires { ⌜ length (now marks) ≡ 4096 ⌝ }
+pub fn entry_number(marks: &mut [u8; Job::MAX_SLOTS], x: u16) -> u8
+    requires { ⌜ length (now marks) ≡ SLOTS ⌝ }
     ensures { λ r. ⌜ Entered (now (marks .entry)) x r (now (marks .exit)) ⌝ }
 {
     if x == Job::FREE {
         return 0;
     }
     let at = x as usize;
-    if 4096 <= at {
+    if Job::MAX_SLOTS <= at {
         return 5;
     }
     let mark = marks[at];
@@ -97,7 +111,7 @@ pub fn worse_of(was: u8, now: u8) -> u8
 }
 
 // 5, 6 or 0 for the entries, S of them: one pass. The marks are lent with the user slots marked.
-fn entries_number(job: Job, places: &[u16], marks: &mut [u8; 4096]) -> u8
+fn entries_number(job: Job, places: &[u16], marks: &mut [u8; Job::MAX_SLOTS]) -> u8
     requires { ⌜ Sound job × (length (now places) ≡ job .slots) × Marked (racksOf job) (now marks) ⌝ }
     ensures { λ r. ⌜ r ≡ entriesNumber (racksOf job) (now (places .entry)) ⌝ }
 {
@@ -119,40 +133,23 @@ fn number_entries(job: Job, places: &[u16]) -> u8
     requires { ⌜ Sound job × (length (now places) ≡ job .slots) ⌝ }
     ensures { λ r. ⌜ r ≡ entriesNumber (racksOf job) (now (places .entry)) ⌝ }
 {
-    let mut racks = [0u8; 4096];
-    let mut marks = [0u8; 4096];
-    fill_tables(job, &mut racks, &mut marks);
+    let mut marks = [0u8; Job::MAX_SLOTS];
+    mark_users(job, &mut marks);
     entries_number(job, places, &mut marks)
 }
 
-// The marks from `low` up to `high` are shut.
-fn shut(marks: &mut [u8; 8193], low: usize, high: usize)
-    requires { ⌜ (high ≤ 8193) × (length (now marks) ≡ 8193) ⌝ }
-    ensures { λ _. ⌜ Between low high 0 (now (marks .entry)) (now (marks .exit)) ⌝ }
+// The mark of each spare is shut, and the one behind the last slot; the others are left.
+fn shut_spares(job: Job, marks: &mut [u8; Job::MARKS])
+    requires { ⌜ Sound job × (length (now marks) ≡ MARKS) ⌝ }
+    ensures { λ _. ⌜ OnceMarked (racksOf job) (now (marks .exit)) ⌝ }
 {
-    let mut g = low;
-    while g < high {
-        marks[g] = 0;
-        g = g + 1;
-    }
-}
-
-// Each slot's rack into one table; into the other an open mark for each user slot, a shut one for each spare and behind the last slot.
-fn fill_racks(job: Job, table: &mut [u8; 4096], marks: &mut [u8; 8193])
-    requires { ⌜ Sound job ⌝ }
-    ensures { λ _. ⌜ Opened (racksOf job) (now (table .exit)) (now (marks .exit)) ⌝ }
-{
-    *table = [0; 4096];
-    *marks = [1; 8193];
     let n = job.racks;
     let mut low: usize = 0;
     let mut p: usize = 0;
     while p < n {
         let spare = job.spares[p] as usize;
-        let end = job.ends[p] as usize;
-        fill(table, low, end, p as u8);
-        shut(marks, spare, end);
-        low = end;
+        low = job.ends[p] as usize;
+        fill(marks, spare, low, 0);
         p = p + 1;
     }
     marks[low] = 0;
@@ -161,11 +158,11 @@ fn fill_racks(job: Job, table: &mut [u8; 4096], marks: &mut [u8; 8193])
 // Where the mark of an entry stands: a free slot has one of its own, so that no mark waits for the one before it. No branch: in a table
 // where free and taken slots alternate at random none could be foretold.
 fn place_of(slots: usize, g: usize, x: u16) -> usize
-    requires { ⌜ (slots ≤ 4096) × (g < 4096) ⌝ }
+    requires { ⌜ (slots ≤ SLOTS) × (g < SLOTS) ⌝ }
     ensures { λ r. ⌜ r ≡ placeOf slots g x ⌝ }
 {
     if x == Job::FREE {
-        return 4097 + g;
+        return Job::MAX_SLOTS + 1 + g;
     }
     let at = x as usize;
     if slots < at {
@@ -175,8 +172,8 @@ fn place_of(slots: usize, g: usize, x: u16) -> usize
 }
 
 // Shuts the mark at a place; whether it was open.
-fn take_mark(marks: &mut [u8; 8193], at: usize) -> bool
-    requires { ⌜ (at < 8193) × (length (now marks) ≡ 8193) ⌝ }
+fn take_mark(marks: &mut [u8; Job::MARKS], at: usize) -> bool
+    requires { ⌜ (at < MARKS) × (length (now marks) ≡ MARKS) ⌝ }
     ensures { λ r. ⌜ MarkTaken (now (marks .entry)) at r (now (marks .exit)) ⌝ }
 {
     let mark = marks[at];
@@ -196,7 +193,7 @@ fn both(a: bool, b: bool) -> bool
 
 // Whether each entry found its mark open: then no entry is refused. One pass without a branch on an entry, since free and taken slots may
 // alternate at random; which number a refused table gets is left to `number_entries`.
-fn marked_once(job: Job, places: &[u16], marks: &mut [u8; 8193]) -> bool
+fn marked_once(job: Job, places: &[u16], marks: &mut [u8; Job::MARKS]) -> bool
     requires { ⌜ Sound job × (length (now places) ≡ job .slots) × OnceMarked (racksOf job) (now marks) ⌝ }
     ensures { λ r. ⌜ (r ≡ true → 0 ≡ entriesNumber (racksOf job) (now (places .entry))) ⌝ }
 {
@@ -211,10 +208,20 @@ fn marked_once(job: Job, places: &[u16], marks: &mut [u8; 8193]) -> bool
     all
 }
 
-// The number of a table; where it is 0, each slot's rack is in `racks`.
-pub fn table_number(job: Job, places: &[u16], racks: &mut [u8; 4096]) -> u8
-    requires { ⌜ (job .refused ≡ 0 → Sound job) ⌝ }
-    ensures { λ r. ⌜ Checked job (now (places .entry)) r (now (racks .exit)) ⌝ }
+// Whether no entry of a table is refused, with the marks made: all are open but those of the spares.
+fn entries_clear(job: Job, places: &[u16]) -> bool
+    requires { ⌜ Sound job × (length (now places) ≡ job .slots) ⌝ }
+    ensures { λ r. ⌜ (r ≡ true → 0 ≡ entriesNumber (racksOf job) (now (places .entry))) ⌝ }
+{
+    let mut marks = [1u8; Job::MARKS];
+    shut_spares(job, &mut marks);
+    marked_once(job, places, &mut marks)
+}
+
+// The number of a table; where it is 0, each slot's rack is known.
+pub fn table_number(job: Job, places: &[u16], racking: &mut [u8; Job::MAX_SLOTS]) -> u8
+    requires { ⌜ Fit job × (length (now racking) ≡ SLOTS) ⌝ }
+    ensures { λ r. ⌜ Checked job (now (places .entry)) r (now (racking .exit)) ⌝ }
 {
     if job.refused != 0 {
         return job.refused;
@@ -222,18 +229,23 @@ pub fn table_number(job: Job, places: &[u16], racks: &mut [u8; 4096]) -> u8
     if places.len() != job.slots {
         return 4;
     }
-    let mut marks = [0u8; 8193];
-    fill_racks(job, racks, &mut marks);
-    if marked_once(job, places, &mut marks) {
+    fill_racking(job, racking);
+    if entries_clear(job, places) {
         return 0;
     }
     number_entries(job, places)
 }
 
-// The number of a table and its cards of B bytes; where it is 0, each slot's rack is in `racks`.
-pub fn cards_number(job: Job, b: usize, places: &[u16], cards: &[u8], racks: &mut [u8; 4096]) -> u8
-    requires { ⌜ (job .refused ≡ 0 → Sound job) ⌝ }
-    ensures { λ r. ⌜ CardsChecked job b (now (places .entry)) (now (cards .entry)) r (now (racks .exit)) ⌝ }
+// The number of a table and its cards of B bytes; where it is 0, each slot's rack is known.
+pub fn cards_number(
+    job: Job,
+    b: usize,
+    places: &[u16],
+    cards: &[u8],
+    racking: &mut [u8; Job::MAX_SLOTS],
+) -> u8
+    requires { ⌜ Fit job × (length (now racking) ≡ SLOTS) ⌝ }
+    ensures { λ r. ⌜ CardsChecked job b (now (places .entry)) (now (cards .entry)) r (now (racking .exit)) ⌝ }
 {
     if job.refused == 1 {
         return 1;
@@ -250,5 +262,15 @@ pub fn cards_number(job: Job, b: usize, places: &[u16], cards: &[u8], racks: &mu
     if cards.len() != job.slots * b {
         return 4;
     }
-    table_number(job, places, racks)
+    table_number(job, places, racking)
+}
+
+// The table check, by the job.
+pub fn check_job(job: Job, places: &[u16]) -> Answer
+    requires { ⌜ Fit job ⌝ }
+    ensures { λ r. ⌜ r ≡ checkedBy job (now (places .entry)) ⌝ }
+{
+    let mut racking = [0u8; Job::MAX_SLOTS];
+    let number = table_number(job, places, &mut racking);
+    Answer::of(number)
 }

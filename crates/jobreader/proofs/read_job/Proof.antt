@@ -40,8 +40,8 @@ use denote.Triple.Table.{entered, cited}
 use denote.Triple.Walked.{says, Stays, stay-none-slice, gave-slice, walkOf, goes-none-slice, goes-gave-slice, Walks, ends-at, walked, walk-meets}
 use denote.Exit.{yes}
 use denote.Triple.Clauses.{ensured, lasts, Lasts}
-use Rattle.racks.proofs.Answer as An
-use Rattle.racks.proofs.Answer.Laws as An′
+use Rattle.answers.proofs.Answer as An
+use Rattle.answers.proofs.Answer.Laws as An′
 use Rattle.jobfile.specs.File.{read}
 use Rattle.jobfile.specs.Answers.{cardsOf, readOf}
 use Rattle.jobfile.specs.declared.FileAnswer.{FileAnswer}

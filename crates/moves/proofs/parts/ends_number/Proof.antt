@@ -6,7 +6,7 @@ use Rattle.racks.specs.Racks.{slots}
 use Rattle.racks.specs.Table.{rackTo}
 use Rattle.racks.specs.Job.{racksOf}
 use Rattle.racks.proofs.Jobs.{sound-slots}
-use Rattle.racks.proofs.Legal.{legal-dest, legal-long}
+use Rattle.racks.proofs.LegalTable.{legal-slot}
 use Rattle.moves.proofs.Ends.{ends-7-from, ends-7-to, ends-8, ends-9, ends-10, ends-11, ends-0}
 use Rattle.moves.proofs.parts.ends_number.Statement.{statement}
 use Rattle.moves.proofs.parts.ends_number.Tie as tie
@@ -14,33 +14,33 @@ use Rattle.moves.proofs.parts.ends_number.Tie as tie
 -- both are slots, of which there are at most 4,096
 module _ (c : tie.Else2) where
   long : length (c .before .before .before .before .args .places .now) ≡ slots (racksOf (c .before .before .before .before .args .job))
-  long = let s = c .before .before .before .before in legal-long (racksOf (s .args .job)) (s .args .places .now) (s .pre .2)
+  long = let s = c .before .before .before .before in s .pre .legal .long
 
   from-lt : c .before .before .before .before .args .from < slots (racksOf (c .before .before .before .before .args .job))
-  from-lt = let s = c .before .before .before .before in omega (arith, sound-slots _ (s .pre .0), c .before .before .if1 .left)
+  from-lt = let s = c .before .before .before .before in omega (arith, sound-slots _ (s .pre .sound), c .before .before .if1 .left)
 
   to-lt : c .before .before .before .before .args .to < slots (racksOf (c .before .before .before .before .args .job))
-  to-lt = let s = c .before .before .before .before in omega (arith, sound-slots _ (s .pre .0), c .if2 .left)
+  to-lt = let s = c .before .before .before .before in omega (arith, sound-slots _ (s .pre .sound), c .if2 .left)
 
   small : slots (racksOf (c .before .before .before .before .args .job)) ≤ 4096
-  small = c .before .before .before .before .pre .0 .small
+  small = c .before .before .before .before .pre .sound .small
 
 -- the source has a card, and its destination is a slot
 card : (c : tie.Else3) → getD (c .before .before .before .before .before .before .args .places .now) (c .before .before .before .before .before .before .args .from) 0 < slots (racksOf (c .before .before .before .before .before .before .args .job))
 card c =
     let e = c .before .before in
     let s = e .before .before .before .before in
-    legal-dest (racksOf (s .args .job)) (s .args .places .now) (s .pre .2) (s .args .from) (omega (arith, from-lt e, long e)) (c .if3 .left)
+    legal-slot (racksOf (s .args .job)) (s .args .places .now) (s .pre .legal) (s .args .from) (omega (arith, from-lt e, long e)) (c .if3 .left)
 
 returns : tie.Need-returns
 returns c =
     let s = c .before .before in
-    ends-7-from (racksOf (s .args .job)) (s .args .places .now) (s .args .from, s .args .to) (omega (arith, sound-slots _ (s .pre .0)))
+    ends-7-from (racksOf (s .args .job)) (s .args .places .now) (s .args .from, s .args .to) (omega (arith, sound-slots _ (s .pre .sound)))
 
 returns-2 : tie.Need-returns-2
 returns-2 c =
     let s = c .before .before .before .before in
-    ends-7-to (racksOf (s .args .job)) (s .args .places .now) (s .args .from, s .args .to) (omega (arith, sound-slots _ (s .pre .0)))
+    ends-7-to (racksOf (s .args .job)) (s .args .places .now) (s .args .from, s .args .to) (omega (arith, sound-slots _ (s .pre .sound)))
 
 mul-x : tie.Need-mul-x
 mul-x c = omega (arith, from-lt c, small c)
@@ -70,7 +70,7 @@ returns-4 c =
     let e = d .before .before in
     let s = e .before .before .before .before in
     ends-9 (racksOf (s .args .job)) (s .args .places .now) (s .args .from, s .args .to) (from-lt e) (to-lt e) (d .if3 .left)
-    (sym (s .pre .1 _ (from-lt e)) ∙ c .if4 .taken ∙ s .pre .1 _ (card d))
+    (sym (s .pre .filled _ (from-lt e)) ∙ c .if4 .taken ∙ s .pre .filled _ (card d))
 
 element-copy-out-if5 : tie.Need-element-copy-out-if5
 element-copy-out-if5 c = omega (arith, to-lt (c .before .before .before .before .before), small (c .before .before .before .before .before))
@@ -83,7 +83,7 @@ returns-5 c =
     let e = d .before .before in
     let s = e .before .before .before .before in
     ends-10 (racksOf (s .args .job)) (s .args .places .now) (s .args .from, s .args .to) (from-lt e) (to-lt e) (d .if3 .left)
-    (λ q. b .if4 .left (s .pre .1 _ (from-lt e) ∙ q ∙ sym (s .pre .1 _ (card d)))) (λ q. c .if5 .taken (s .pre .1 _ (to-lt e) ∙ q ∙ sym (s .pre .1 _ (card d))))
+    (λ q. b .if4 .left (s .pre .filled _ (from-lt e) ∙ q ∙ sym (s .pre .filled _ (card d)))) (λ q. c .if5 .taken (s .pre .filled _ (to-lt e) ∙ q ∙ sym (s .pre .filled _ (card d))))
 
 mul-if6 : tie.Need-mul-if6
 mul-if6 c = let e = c .before .before .before .before .before .before .before in omega (arith, to-lt e, small e)
@@ -100,7 +100,7 @@ returns-6 c =
     let e = d .before .before in
     let s = e .before .before .before .before in
     ends-11 (racksOf (s .args .job)) (s .args .places .now) (s .args .from, s .args .to) (from-lt e) (to-lt e) (d .if3 .left)
-    (λ q. b .if4 .left (s .pre .1 _ (from-lt e) ∙ q ∙ sym (s .pre .1 _ (card d)))) (sym (s .pre .1 _ (to-lt e)) ∙ a .if5 .left ∙ s .pre .1 _ (card d)) (c .if6 .taken)
+    (λ q. b .if4 .left (s .pre .filled _ (from-lt e) ∙ q ∙ sym (s .pre .filled _ (card d)))) (sym (s .pre .filled _ (to-lt e)) ∙ a .if5 .left ∙ s .pre .filled _ (card d)) (c .if6 .taken)
 
 returns-7 : tie.Need-returns-7
 unfolding rackTo
@@ -111,7 +111,7 @@ returns-7 c =
     let e = d .before .before in
     let s = e .before .before .before .before in
     ends-0 (racksOf (s .args .job)) (s .args .places .now) (s .args .from, s .args .to) (from-lt e) (to-lt e) (d .if3 .left)
-    (λ q. b .if4 .left (s .pre .1 _ (from-lt e) ∙ q ∙ sym (s .pre .1 _ (card d)))) (sym (s .pre .1 _ (to-lt e)) ∙ a .if5 .left ∙ s .pre .1 _ (card d)) (c .if6 .left)
+    (λ q. b .if4 .left (s .pre .filled _ (from-lt e) ∙ q ∙ sym (s .pre .filled _ (card d)))) (sym (s .pre .filled _ (to-lt e)) ∙ a .if5 .left ∙ s .pre .filled _ (card d)) (c .if6 .left)
 
 pub ends-number-spec : {M : Type 1} → statement M
 ends-number-spec =

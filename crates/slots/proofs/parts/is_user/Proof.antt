@@ -11,10 +11,10 @@ use Rattle.slots.proofs.parts.is_user.Statement.{statement}
 use Rattle.slots.proofs.parts.is_user.Tie as tie
 
 -- the slot's rack, as looked up
-rack : (c : tie.After-p) → getD (c .before .before .args .racks .now) (c .before .before .args .g) 0 < 64
+rack : (c : tie.After-p) → getD (c .before .before .args .racking .now) (c .before .before .args .g) 0 < 64
 rack c =
     let s = c .before .before in
-    omega (arith, sound-few _ (s .pre .0), looked-up (s .args .t1) (s .pre .0) (s .args .racks .now) (s .pre .1) (s .args .g) (omega arith))
+    omega (arith, sound-few _ (s .pre .0), looked-up (s .args .t1) (s .pre .0) (s .args .racking .now) (s .pre .1) (s .args .g) (omega arith))
 
 returns : tie.Need-returns
 returns c = sym (user-none (racksOf (c .before .args .t1)) (c .before .args .g) (omega (arith, sound-slots _ (c .before .pre .0))))
@@ -37,7 +37,7 @@ cast-spare c = search needs
 returns-2 : tie.Need-returns-2
 returns-2 c =
     let s = c .before .before .before in
-    looked-spare (s .args .t1) (s .pre .0) (s .args .racks .now) (s .pre .1) (s .args .g) (omega arith)
+    looked-spare (s .args .t1) (s .pre .0) (s .args .racking .now) (s .pre .1) (s .args .g) (omega arith)
 
 pub is-user-spec : {M : Type 1} → statement M
 is-user-spec =

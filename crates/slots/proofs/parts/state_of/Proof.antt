@@ -5,7 +5,7 @@ use lib.ListN.{getD}
 use Rattle.racks.specs.Job.{racksOf}
 use Rattle.racks.specs.Racks.{slots, rackOf}
 use Rattle.slots.proofs.Slots.{state-free, state-settled, state-here, state-away}
-use Rattle.racks.proofs.Legal.{legal-dest, legal-long}
+use Rattle.racks.proofs.LegalTable.{legal-slot}
 use Rattle.racks.proofs.Jobs.{sound-slots, sound-few}
 use Rattle.slots.proofs.Lookups.{looked-up}
 use borrow.Author.Needs.{needs}
@@ -16,16 +16,16 @@ use Rattle.slots.proofs.parts.state_of.Tie as tie
 slot : (c : tie.Else2) → getD (c .before .before .before .args .places .now) (c .before .before .before .args .g) 0 < slots (racksOf (c .before .before .before .args .job))
 slot c =
     let s = c .before .before .before in
-    legal-dest (racksOf (s .args .job)) (s .args .places .now) (s .pre .2) (s .args .g) (s .pre .3) (c .before .if1 .left)
+    legal-slot (racksOf (s .args .job)) (s .args .places .now) (s .pre .0 .legal) (s .args .g) (s .pre .1) (c .before .if1 .left)
 
 -- the racks looked up
-here : (c : tie.Else2) → getD (c .before .before .before .args .racks .now) (c .before .before .before .args .g) 0 ≡ rackOf (racksOf (c .before .before .before .args .job)) (c .before .before .before .args .g)
+here : (c : tie.Else2) → getD (c .before .before .before .args .racking .now) (c .before .before .before .args .g) 0 ≡ rackOf (racksOf (c .before .before .before .args .job)) (c .before .before .before .args .g)
 here c =
     let s = c .before .before .before in
-    s .pre .1 (s .args .g) (omega (arith, legal-long (racksOf (s .args .job)) (s .args .places .now) (s .pre .2), s .pre .3))
+    s .pre .0 .filled (s .args .g) (omega (arith, s .pre .0 .legal .long, s .pre .1))
 
-there : (c : tie.Else2) → getD (c .before .before .before .args .racks .now) (getD (c .before .before .before .args .places .now) (c .before .before .before .args .g) 0) 0 ≡ rackOf (racksOf (c .before .before .before .args .job)) (getD (c .before .before .before .args .places .now) (c .before .before .before .args .g) 0)
-there c = let s = c .before .before .before in s .pre .1 _ (slot c)
+there : (c : tie.Else2) → getD (c .before .before .before .args .racking .now) (getD (c .before .before .before .args .places .now) (c .before .before .before .args .g) 0) 0 ≡ rackOf (racksOf (c .before .before .before .args .job)) (getD (c .before .before .before .args .places .now) (c .before .before .before .args .g) 0)
+there c = let s = c .before .before .before in s .pre .0 .filled _ (slot c)
 
 mul-x : tie.Need-mul-x
 mul-x c = search needs
@@ -49,12 +49,12 @@ returns-2 c =
 element-copy-out-there : tie.Need-element-copy-out-there
 element-copy-out-there c =
     let s = c .before .before .before in
-    omega (arith, legal-dest (racksOf (s .args .job)) (s .args .places .now) (s .pre .2) (s .args .g) (s .pre .3) (c .before .if1 .left), s .pre .0 .small)
+    omega (arith, legal-slot (racksOf (s .args .job)) (s .args .places .now) (s .pre .0 .legal) (s .args .g) (s .pre .1) (c .before .if1 .left), s .pre .0 .sound .small)
 
 element-copy-out-if3 : tie.Need-element-copy-out-if3
 element-copy-out-if3 c =
     let s = c .before .before .before .before in
-    omega (arith, legal-long (racksOf (s .args .job)) (s .args .places .now) (s .pre .2), s .pre .0 .small, s .pre .3)
+    omega (arith, s .pre .0 .legal .long, s .pre .0 .sound .small, s .pre .1)
 
 returns-3 : tie.Need-returns-3
 returns-3 c =
@@ -66,7 +66,7 @@ cast-t8 : tie.Need-cast-t8
 cast-t8 c =
     let e = c .before .before .before in
     let s = e .before .before .before in
-    omega (arith, looked-up (s .args .job) (s .pre .0) (s .args .racks .now) (s .pre .1) (getD (s .args .places .now) (s .args .g) 0) (omega (arith, sound-slots _ (s .pre .0), slot e)), sound-few _ (s .pre .0))
+    omega (arith, looked-up (s .args .job) (s .pre .0 .sound) (s .args .racking .now) (s .pre .0 .filled) (getD (s .args .places .now) (s .args .g) 0) (omega (arith, sound-slots _ (s .pre .0 .sound), slot e)), sound-few _ (s .pre .0 .sound))
 
 returns-4 : tie.Need-returns-4
 returns-4 c =

@@ -7,6 +7,9 @@ use Rattle.tables.proofs.parts.place_of.Tie as tie
 add-result : tie.Need-add-result
 add-result c = search needs
 
+add-result-2 : tie.Need-add-result-2
+add-result-2 c = search needs
+
 returns : tie.Need-returns
 returns c = place-free _ _ _ (c .if1 .taken)
 
@@ -17,4 +20,4 @@ returns-3 : tie.Need-returns-3
 returns-3 c = place-slot _ _ _ (c .before .if1 .left) (omega arith)
 
 pub place-of-spec : {M : Type 1} → statement M
-place-of-spec = tie.close (tie.spec add-result returns returns-2 returns-3)
+place-of-spec = tie.close (tie.spec add-result add-result-2 returns returns-2 returns-3)
