@@ -17,7 +17,7 @@ use Rattle.racks.specs.Job.{racksOf, jobOf}
 use Rattle.racks.specs.declared.Job.{Job}
 use Rattle.tables.specs.Tables.{tableNumber}
 use Rattle.tables.proofs.Tables.{number-racks, same-racks, of-checks}
-use Rattle.slots.specs.Asked.{said, askedBy}
+use Rattle.slots.specs.parts.Asked.{said, askedBy}
 use Rattle.slots.specs.declared.Slot.{Slot}
 use Rattle.answers.specs.Answers.{answer, noCounts}
 use Rattle.slots.specs.Slots.{kindOf, stateOf, nothing, refusedSlot, slotChecks, asked}

@@ -6,7 +6,7 @@ ghost use Rattle.racks.specs.Racks.{isUser};
 ghost use Rattle.racks.specs.Job.{racksOf, Sound, Fit};
 ghost use Rattle.tables.specs.Tables.{Filled, Open};
 ghost use Rattle.slots.specs.Slots.{refusedSlot, kindOf, stateOf};
-ghost use Rattle.slots.specs.Asked.{askedBy};
+ghost use Rattle.slots.specs.parts.Asked.{askedBy};
 use crate::Kind;
 use crate::Slot;
 use crate::SlotAnswer;
