@@ -1,10 +1,11 @@
 -- Demand 1 holds. Assumes nothing.
-use mathlib.Core.Path.{_≡_}
+use mathlib.Core.Path.{_≡_, sym, ap, subst}
 use mathlib.Core.Logic.{_≢_, _↔_}
-use mathlib.Core.List.{List, _∷_}
+use mathlib.Core.List.{List, [], _∷_}
 use Prim.Native.Nat.{ℕ, suc, _≤_, _<_}
 use native.Mathlib.Omega.{arith}
-use lib.ListN.{length}
+use lib.ListN.{length, drop, drop-of-length-le}
+use denote.Ref.{now}
 use borrow.Author.Tests.{ne-eqb}
 use Rattle.counting.specs.Checks.{first}
 use Rattle.racks.specs.Racks.{Rack, base, slots, rackOf}
@@ -18,10 +19,15 @@ use Rattle.moves.specs.Phases.{budgeted}
 use Rattle.copies.specs.Copies.{copyChecks, copied}
 use Rattle.shuffle.specs.Shuffle.{shuffleChecks, shuffled}
 use Rattle.runs.specs.Run.{ran}
-use Rattle.jobfile.specs.File.{fileRacks, fileBytes, readChecks, read}
+use Rattle.answers.specs.declared.Answer.{Answer}
+use Rattle.jobfile.specs.Number.{number, groups, numbers}
+use Rattle.jobfile.specs.File.{readN, fileRacks, fileBytes, fileChecks, readChecks, read}
+use Rattle.jobreader.specs.Reading.{ahead, JobRead}
+use Rattle.jobreader.specs.declared.Reader.{Reader}
+use Rattle.jobreader.specs.declared.JobFile.{JobFile}
 use Rattle.listing.specs.Listing.{refusedLine, fileHeld, runText, programChecks, listing, handedOver, printed}
-use Rattle.demands.specs.Rows.{None, Holds, Given}
-use Rattle.demands.specs.FileConditions.{fileRows, FileTooLarge}
+use Rattle.demands.specs.Rows.{None, Holds, Given, _then_}
+use Rattle.demands.specs.FileConditions.{fileRows, NoRoom, FileTooLarge}
 use Rattle.demands.specs.Demand1.{Demand1}
 use Rattle.demands.proofs.Rows.{given-none, given-row, holds-some}
 use Rattle.demands.proofs.Says.{says-or, says-lt, says-user, says-7, says-12, says-13}
@@ -53,8 +59,25 @@ module _ (file : List ℕ) where
   unfolding listing
   runs h = rw (given-program .done .1 h)
 
+-- the file reader's number
+given-read : (file caps places : List ℕ) → Given (read file caps places .answer .number) (fileRows file then (17, NoRoom file caps places) ∷ [])
+unfolding read readChecks
+given-read file caps places =
+    given-file file _ _ (given-row _ (λ e. omega arith) (says-or (says-lt (length caps) _) (says-lt (length places) _)) given-none)
+
+-- and that of a job read from a reader's place on
+given-job : (reader : Reader) (caps places : List ℕ) (job : JobFile) (caps′ places′ : List ℕ) → JobRead reader caps places job caps′ places′
+    → Given (job .answer .number) (fileRows (ahead reader) then (17, NoRoom (ahead reader) caps places) ∷ [])
+given-job reader caps places job caps′ places′ r =
+    subst (λ (a : Answer). Given (a .number) (fileRows (ahead reader) then (17, NoRoom (ahead reader) caps places) ∷ [])) (sym (r .answer-is)) (given-read (ahead reader) caps places)
+
+-- nothing lies ahead of a place behind the end, and no number is in an empty file
+behind : (reader : Reader) (caps places : List ℕ) → length (now (reader .file)) ≤ reader .at → read (ahead reader) caps places .answer .number ≡ 15
+unfolding first ahead read readChecks fileChecks readN numbers number groups
+behind reader caps places l = rw (drop-of-length-le (now (reader .file)) {i = reader .at} l)
+
 pub demand1 : Demand1
-unfolding checked slotChecks asked planChecks planned moveChecks moved budgeted copyChecks copied shuffleChecks shuffled ran readChecks read handedOver printed
+unfolding checked slotChecks asked planChecks planned moveChecks moved budgeted copyChecks copied shuffleChecks shuffled ran ahead handedOver printed
 demand1 =
     record {
       check-table = given-table-only;
@@ -66,7 +89,10 @@ demand1 =
           (given-row _ (λ e. omega arith) (says-12 racks places) (given-row _ (λ e. omega arith) (says-13 lent _) given-none));
       shuffle-cards = λ racks b h. given-cards racks (h .places) _ _ (given-row _ (λ e. omega arith) (says-12 racks (h .places)) given-none) b (h .cards);
       whole-run = λ racks b h. given-cards-only racks (h .places) b (h .cards);
-      read-file = λ file caps places. given-file file _ _ (given-row _ (λ e. omega arith) (says-or (says-lt (length caps) _) (says-lt (length places) _)) given-none);
+      read-file = given-read;
+      read-job = given-job;
+      from-start = λ reader z. ap (λ (at : ℕ). drop at (now (reader .file))) z;
+      behind-end = behind;
       list-job = λ file lent. given-row _ (λ e. omega arith) (says-13 lent _) given-none;
       form = given-form;
       ends = number-ends;

@@ -139,8 +139,8 @@ one-new file x y p q =
     let g = p .1 ∙ sym (q .1) in
     λ i. record { file = f i; at = g i }
 
-one-job : (file caps places : List ℕ) → OneSeen jobSeen (λ ((job, caps′, places′) : JobFile × List ℕ × List ℕ). JobRead file caps places job caps′ places′)
-one-job file caps places (x, c, p) (y, d, q) a b =
+one-job : (reader : Reader) (caps places : List ℕ) → OneSeen jobSeen (λ ((job, caps′, places′) : JobFile × List ℕ × List ℕ). JobRead reader caps places job caps′ places′)
+one-job reader caps places (x, c, p) (y, d, q) a b =
     let e0 = a .answer-is ∙ sym (b .answer-is) in
     let e1 = a .racks-are ∙ sym (b .racks-are) in
     let e2 = a .bytes-are ∙ sym (b .bytes-are) in
@@ -163,6 +163,7 @@ one-outcome =
       whole-run = λ caps b places cards. carded _;
       read-file = λ file caps places. filed file _;
       list-job = λ file lent. texted _;
+      rest-of = λ file at x y p q. p ∙ sym q;
       card-bytes = λ file found x y p q. p ∙ sym q;
       step-at = one-step;
       new = one-new;

@@ -6,6 +6,7 @@ use mathlib.Core.Bool.{true}
 use mathlib.Core.List.{List, [], _∷_}
 use Prim.Native.Nat.{ℕ, suc, _+_, _≤_, _<_}
 use lib.ListN.{length, getD}
+use denote.Ref.{now}
 use Rattle.counting.specs.Lists.{flat}
 use Rattle.racks.specs.Racks.{Rack, ofCaps, users, total, base, slots, rackOf, isUser}
 use Rattle.answers.specs.Answers.{noCounts}
@@ -20,7 +21,11 @@ use Rattle.shuffle.specs.Shuffle.{shuffled}
 use Rattle.runs.specs.Run.{ran}
 use Rattle.jobfile.specs.Number.{number}
 use Rattle.jobfile.specs.File.{fileRacks, fileBytes, read}
+use Rattle.jobreader.specs.Reading.{ahead, JobRead}
+use Rattle.jobreader.specs.declared.Reader.{Reader}
+use Rattle.jobreader.specs.declared.JobFile.{JobFile}
 use Rattle.listing.specs.Listing.{refusedLine, fileHeld, runText, listing, printed}
+use Rattle.demands.specs.OneOutcome.{jobSeen}
 use Rattle.demands.specs.Rows.{None, Holds, Given, _then_}
 use Rattle.demands.specs.Conditions.{UserSlot, NoSlot, CardAway, TooShort, tableRows, cardRows, endRows}
 use Rattle.demands.specs.FileConditions.{EndsWith, valueOf, formRows, fileRows, NoRoom, FileTooLarge}
@@ -43,6 +48,11 @@ pub record Demand1 : Type 0 where
   pub whole-run : (racks : List Rack) (b : ℕ) (h : Held) → Given (ran racks b h .answer .number) (cardRows racks b (h .places) (h .cards))
   pub read-file : (file caps places : List ℕ)
       → Given (read file caps places .answer .number) (fileRows file then (17, NoRoom file caps places) ∷ [])
+  -- a job is read from the reader's place on: the whole file from the start, and 15 where the place lies behind the end
+  pub read-job : (reader : Reader) (caps places : List ℕ) (job : JobFile) (caps′ places′ : List ℕ) → JobRead reader caps places job caps′ places′
+      → Given (job .answer .number) (fileRows (ahead reader) then (17, NoRoom (ahead reader) caps places) ∷ [])
+  pub from-start : (reader : Reader) → reader .at ≡ 0 → ahead reader ≡ now (reader .file)
+  pub behind-end : (reader : Reader) (caps places : List ℕ) → length (now (reader .file)) ≤ reader .at → read (ahead reader) caps places .answer .number ≡ 15
   pub list-job : (file lent : List ℕ) → Given (printed file lent .answer .number) ((13, TooShort lent (listing file)) ∷ [])
   -- one number of a file: 14, 15, or its value by its groups and the place behind the last
   pub form : (file : List ℕ) (at : ℕ) → Given (number file at .number) (formRows file at)
@@ -84,5 +94,7 @@ pub record Refusals : Type 0 where
   pub read-file : (file caps places : List ℕ) (n : ℕ) → n ≢ 0 → read file caps places .answer .number ≡ n
       → read file caps places
       ≡ record { answer = refusedWith n; racks = 0; bytes = 0; slots = 0; caps = caps; places = places; place = 0; cards = [] }
+  pub read-job : (reader : Reader) (caps places : List ℕ) (job : JobFile) (caps′ places′ : List ℕ) (n : ℕ) → JobRead reader caps places job caps′ places′ → n ≢ 0
+      → job .answer .number ≡ n → jobSeen (job, caps′, places′) ≡ (refusedWith n, 0, 0, 0, [], caps, places)
   pub list-job : (file lent : List ℕ) (n : ℕ) → n ≢ 0 → printed file lent .answer .number ≡ n
       → printed file lent ≡ record { answer = refusedWith n; size = 0; lent = lent }

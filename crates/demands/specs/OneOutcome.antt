@@ -3,6 +3,7 @@
 use mathlib.Core.Path.{_≡_}
 use mathlib.Core.List.{List}
 use Prim.Native.Nat.{ℕ}
+use lib.ListN.{drop}
 use denote.Ref.{RefT, now}
 use Rattle.racks.specs.Racks.{ofCaps}
 use Rattle.racks.specs.Job.{jobOf}
@@ -65,12 +66,13 @@ pub record OneOutcome : Type 0 where
       → One (λ ((r, caps′, places′) : FileAnswer × List ℕ × List ℕ). readOf r caps′ places′ file ≡ read file caps places)
   pub list-job : (file lent : List ℕ) → One (λ ((r, lent′) : TextAnswer × List ℕ). printedOf r lent′ ≡ printed file lent)
   -- the reader that remembers its place; a part of the file is known by its bytes
+  pub rest-of : (file : List ℕ) (at : ℕ) → OneSeen now (λ (r : RefT (List ℕ)). now r ≡ drop at file)
   pub card-bytes : (file : List ℕ) (found : FileAnswer) → OneSeen now (λ (r : RefT (List ℕ)). now r ≡ cardsOf found file)
   pub step-at : (file : List ℕ) (at : ℕ) → One (λ (r : Step). Stepped file at r)
   pub new : (file : RefT (List ℕ)) → One (λ (r : Reader). (r .file ≡ file) × (r .at ≡ 0))
   pub next : (reader : Reader) → One (λ ((n, reader′) : Number × Reader). Next reader n reader′)
-  pub read-job : (file caps places : List ℕ)
-      → OneSeen jobSeen (λ ((job, caps′, places′) : JobFile × List ℕ × List ℕ). JobRead file caps places job caps′ places′)
+  pub read-job : (reader : Reader) (caps places : List ℕ)
+      → OneSeen jobSeen (λ ((job, caps′, places′) : JobFile × List ℕ × List ℕ). JobRead reader caps places job caps′ places′)
   -- the small ones: a job of capacities, counts, answers
   pub job-of : (caps : List ℕ) → One (λ (r : Job). r ≡ jobOf (ofCaps caps))
   pub tally-none : One (λ (r : Tally). r ≡ noCounts)

@@ -30,25 +30,26 @@ module _ (file : List ℕ) (place want left : ℕ) (is : left ≡ leftOf file pl
   end-0 l h =
       sym (first-later _ 15 _ (le-ltb (leftOf file place) want (omega arith)) ∙ first-later _ 16 _ (le-ltb want (leftOf file place) (omega arith)) ∙ first-none)
 
--- the card bytes as a part of the file
-module _ (found : FileAnswer) (file : List ℕ) where
+-- the part of a file from a place on
+module _ (file : List ℕ) where
   part-none : take (length file - length file) (drop (length file) file) ≡ []
   part-none = rw (sub-self (length file))
 
-  -- an empty part on a refusal
-  pub cards-refused : (found .answer .number ≡ 0 → ⊥) → take (length file - length file) (drop (length file) file) ≡ cardsOf found file
-  unfolding cardsOf
-  cards-refused f = part-none ∙ rw (ne-eqb (found .answer .number) 0 f)
-
-  module _ (z : found .answer .number ≡ 0) where
-    cards-done : drop (found .place) file ≡ cardsOf found file
-    unfolding cardsOf
-    cards-done = rw (eq-eqb (found .answer .number) 0 z)
-
-    -- and where the place lies behind the file
-    pub cards-past : length file < found .place → take (length file - length file) (drop (length file) file) ≡ cardsOf found file
-    cards-past l = part-none ∙ sym (drop-of-length-le file {i = found .place} (omega arith)) ∙ cards-done
+  module _ (at : ℕ) where
+    -- empty where the place lies behind the end
+    pub rest-past : length file < at → take (length file - length file) (drop (length file) file) ≡ drop at file
+    rest-past l = part-none ∙ sym (drop-of-length-le file {i = at} (omega arith))
 
     -- else all that lies behind the place
-    pub cards-behind : take (length file - found .place) (drop (found .place) file) ≡ cardsOf found file
-    cards-behind = take-all (length file - found .place) (drop (found .place) file) (le-of-eq (length-drop (found .place) file)) ∙ cards-done
+    pub rest-behind : take (length file - at) (drop at file) ≡ drop at file
+    rest-behind = take-all (length file - at) (drop at file) (le-of-eq (length-drop at file))
+
+  -- the card bytes: an empty part on a refusal
+  pub cards-refused : (found : FileAnswer) → (found .answer .number ≡ 0 → ⊥) → take (length file - length file) (drop (length file) file) ≡ cardsOf found file
+  unfolding cardsOf
+  cards-refused found f = part-none ∙ rw (ne-eqb (found .answer .number) 0 f)
+
+  -- else all that lies behind their place
+  pub cards-done : (found : FileAnswer) → found .answer .number ≡ 0 → drop (found .place) file ≡ cardsOf found file
+  unfolding cardsOf
+  cards-done found z = rw (eq-eqb (found .answer .number) 0 z)

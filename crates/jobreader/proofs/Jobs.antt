@@ -2,21 +2,25 @@
 use mathlib.Core.Path.{_≡_, ap, _∙_}
 use mathlib.Core.List.{List}
 use Prim.Native.Nat.{ℕ}
+use lib.ListN.{drop}
 use denote.Ref.{RefT, now}
 use Rattle.jobfile.specs.File.{Read, read}
 use Rattle.jobfile.specs.Answers.{cardsOf, readOf}
 use Rattle.jobfile.specs.declared.FileAnswer.{FileAnswer}
-use Rattle.jobreader.specs.Reading.{JobRead}
+use Rattle.jobreader.specs.Reading.{ahead, JobRead}
+use Rattle.jobreader.specs.declared.Reader.{Reader}
 use Rattle.jobreader.specs.declared.JobFile.{JobFile}
 
 -- the answer of an outcome and of the part of the file that the card bytes are
 abbrev pub made : FileAnswer → RefT (List ℕ) → JobFile
 made found cards = record { answer = found .answer; racks = found .racks; bytes = found .bytes; slots = found .slots; cards = cards }
 
-pub job-read : (file caps places : List ℕ) (found : FileAnswer) (cards : RefT (List ℕ)) (caps′ places′ : List ℕ) → readOf found caps′ places′ file ≡ read file caps places → now cards ≡ cardsOf found file
-    → JobRead file caps places (made found cards) caps′ places′
-unfolding readOf
-job-read file caps places found cards caps′ places′ e c =
+-- read from the part of the file ahead of the reader
+pub job-read : (reader : Reader) (file caps places : List ℕ) (found : FileAnswer) (cards : RefT (List ℕ)) (caps′ places′ : List ℕ) → file ≡ drop (reader .at) (now (reader .file))
+    → readOf found caps′ places′ file ≡ read file caps places → now cards ≡ cardsOf found file → JobRead reader caps places (made found cards) caps′ places′
+unfolding readOf ahead
+job-read reader file caps places found cards caps′ places′ is outcome c =
+    let e = outcome ∙ ap (λ (l : List ℕ). read l caps places) is in
     record {
       answer-is = ap (λ (r : Read). r .answer) e;
       racks-are = ap (λ (r : Read). r .racks) e;

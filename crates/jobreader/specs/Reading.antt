@@ -2,6 +2,7 @@
 use mathlib.Core.Path.{_≡_}
 use mathlib.Core.List.{List}
 use Prim.Native.Nat.{ℕ}
+use lib.ListN.{drop}
 use denote.Ref.{now}
 use Rattle.jobfile.specs.Number.{number}
 use Rattle.jobfile.specs.File.{read}
@@ -28,12 +29,16 @@ pub record Next (before : Reader) (n : Number) (after : Reader) : Type 0 where
   pub file-is : after .file ≡ before .file
   pub at-is : after .at ≡ placeAfter n (before .at)
 
--- **Job file.** N, B, S, the card bytes as a part of the file, and the two lent lists at exit
-pub record JobRead (file caps places : List ℕ) (job : JobFile) (caps′ places′ : List ℕ) : Type 0 where
-  pub answer-is : job .answer ≡ read file caps places .answer
-  pub racks-are : job .racks ≡ read file caps places .racks
-  pub bytes-are : job .bytes ≡ read file caps places .bytes
-  pub slots-are : job .slots ≡ read file caps places .slots
-  pub cards-are : now (job .cards) ≡ read file caps places .cards
-  pub caps-are : caps′ ≡ read file caps places .caps
-  pub places-are : places′ ≡ read file caps places .places
+-- the part of the file from a reader's place on: empty where the place lies behind the end
+unfoldable pub ahead : Reader → List ℕ
+ahead reader = drop (reader .at) (now (reader .file))
+
+-- **Job file.** The job at the reader's place: N, B, S, the card bytes as a part of the file, and the two lent lists at exit
+pub record JobRead (reader : Reader) (caps places : List ℕ) (job : JobFile) (caps′ places′ : List ℕ) : Type 0 where
+  pub answer-is : job .answer ≡ read (ahead reader) caps places .answer
+  pub racks-are : job .racks ≡ read (ahead reader) caps places .racks
+  pub bytes-are : job .bytes ≡ read (ahead reader) caps places .bytes
+  pub slots-are : job .slots ≡ read (ahead reader) caps places .slots
+  pub cards-are : now (job .cards) ≡ read (ahead reader) caps places .cards
+  pub caps-are : caps′ ≡ read (ahead reader) caps places .caps
+  pub places-are : places′ ≡ read (ahead reader) caps places .places

@@ -53,10 +53,12 @@ pub fn next<'s, 'a>(r: &'s mut Reader<'a>) -> Number
     step.number
 }
 
-// Job file: the capacities and the places stand at the front of the lent lists; nothing is written on a refusal.
-pub fn read_job<'a>(file: &'a [u8], caps: &mut [u16], places: &mut [u16]) -> JobFile<'a>
-    ensures { λ r. ⌜ JobRead (now (file .entry)) (now (caps .entry)) (now (places .entry)) r (now (caps .exit)) (now (places .exit)) ⌝ }
+// Job file: the job that begins at the reader's place. The capacities and the places stand at the front of the lent lists;
+// nothing is written on a refusal. A job ends where its file ends, so the reader is not handed back.
+pub fn read_job<'a>(r: Reader<'a>, caps: &mut [u16], places: &mut [u16]) -> JobFile<'a>
+    ensures { λ job. ⌜ JobRead (r .entry) (now (caps .entry)) (now (places .entry)) job (now (caps .exit)) (now (places .exit)) ⌝ }
 {
+    let file = jobfile::rest_of(r.file, r.at);
     let found = jobfile::read_file(file, caps, places);
     JobFile {
         answer: found.answer,
