@@ -82,6 +82,16 @@ fn full(
     job(caps, b, places, dice)
 }
 
+/// Case 1 of the paper cards, with cards of b bytes: one table, so that its variants differ in their cards alone.
+pub fn case_1(b: usize, dice: &mut Dice) -> Job {
+    job(
+        vec![2, 2, 1],
+        b,
+        vec![3, 4, FREE, 0, 6, FREE, 1, FREE],
+        dice,
+    )
+}
+
 /// Each rack's cards are bound for the next rack; racks of unequal size pass on what is left over.
 pub fn ring(caps: &[u16], b: usize, dice: &mut Dice) -> Job {
     full(caps.to_vec(), b, dice, |slots| {

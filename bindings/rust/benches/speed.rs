@@ -3,6 +3,8 @@
 //!     cargo bench --offline
 //!
 //! The calls are made in turn on changing tables; a time is the smallest of several rounds, over all variants of a job.
+//! `ROUNDS` says how many, a word after `--` takes the jobs with it in their name alone, and `TABLE` names a file to which
+//! the rows go as well, with tabs between the fields and all times in nanoseconds a call.
 
 #[path = "engine.rs"]
 mod engine;
@@ -12,11 +14,17 @@ mod shapes;
 
 use seineflute::raw;
 use shapes::{Dice, Job};
+use std::fs::File;
 use std::hint::black_box;
+use std::io::Write;
 use std::time::Instant;
 
 /// Tables of one shape, so that no predictor learns one.
 const VARIANTS: usize = 6;
+
+/// A job of so few slots is a small one: it has this many desks, and its calls are timed together, or a look at the clock would count.
+const SMALL: usize = 128;
+const DESKS: usize = 16;
 
 /// The state that a call works on, made anew before each.
 struct Desk {
@@ -24,9 +32,10 @@ struct Desk {
     cards: Vec<u8>,
     list: Vec<u16>,
     caps: Vec<u16>,
+    text: Vec<u8>,
 }
 
-/// A call of one version on a job: gives the number and the count of moves or copies, so that the versions can be compared.
+/// A call of one version on a job: gives the number and what else it says, a count or a size, so that the versions can be compared.
 type Call = fn(&Job, &mut Desk, &Extra) -> (usize, usize);
 
 /// What else a call is given.
@@ -42,6 +51,10 @@ macro_rules! version {
             |j: &Job, _: &mut Desk, _: &Extra| {
                 let r = $m::check_table(&j.caps, &j.places);
                 (r.number, 0)
+            },
+            |j: &Job, _: &mut Desk, x: &Extra| {
+                let r = $m::slot_question(&j.caps, &j.places, x.from);
+                (r.number, r.state)
             },
             |j: &Job, d: &mut Desk, _: &Extra| {
                 let r = $m::phase_plan(&j.caps, &j.places, &mut d.list);
@@ -60,6 +73,11 @@ macro_rules! version {
                 (r.number, r.moves)
             },
             |j: &Job, d: &mut Desk, _: &Extra| {
+                let all = usize::MAX;
+                let r = $m::budgeted_moves(&j.caps, j.b, &mut d.places, &mut d.cards, all);
+                (r.number, r.moves)
+            },
+            |j: &Job, d: &mut Desk, _: &Extra| {
                 let r = $m::copy_list(&j.caps, &j.places, &mut d.list);
                 (r.number, r.copies)
             },
@@ -75,52 +93,81 @@ macro_rules! version {
                 let r = $m::read_file(&x.file, &mut d.caps, &mut d.places);
                 (r.number, r.slots)
             },
+            |_: &Job, d: &mut Desk, x: &Extra| {
+                let r = $m::list_job(&x.file, &mut d.text);
+                (r.number, r.size)
+            },
         ]
     };
 }
 
-const CALLS: [&str; 9] = [
-    "check",
-    "plan",
-    "one move",
-    "budget 1",
-    "budget 100",
-    "copy list",
-    "shuffle",
-    "whole run",
-    "read file",
+/// A call's name, whether it is made on tables with nothing away, and whether it moves bytes.
+struct Row {
+    name: &'static str,
+    shuffling: bool,
+    moving: bool,
+}
+
+const fn row(name: &'static str, shuffling: bool, moving: bool) -> Row {
+    Row {
+        name,
+        shuffling,
+        moving,
+    }
+}
+
+const ROWS: [Row; 12] = [
+    row("check", false, false),
+    row("slot", false, false),
+    row("plan", false, false),
+    row("one move", false, true),
+    row("budget 1", false, true),
+    row("budget 100", false, true),
+    row("budget all", false, true),
+    row("copy list", true, false),
+    row("shuffle", true, true),
+    row("whole run", false, true),
+    row("read file", false, false),
+    row("listing", false, false),
 ];
 
-const OURS: [Call; 9] = version!(raw);
-const ENGINE: [Call; 9] = version!(engine);
-const PLAIN: [Call; 9] = version!(plain);
+const OURS: [Call; 12] = version!(raw);
+const ENGINE: [Call; 12] = version!(engine);
+const PLAIN: [Call; 12] = version!(plain);
 
-/// Which calls are made on tables with nothing away, which move bytes.
-const SHUFFLING: [bool; 9] = [false, false, false, false, false, true, true, false, false];
-const MOVING: [bool; 9] = [false, false, true, true, true, false, true, true, false];
-
-fn desk(job: &Job) -> Desk {
-    Desk {
+/// The desks of a job: one, but of a small job several.
+fn desks(job: &Job) -> Vec<Desk> {
+    let desk = || Desk {
         places: job.places.clone(),
         cards: job.cards.clone(),
         list: vec![0; 3 * job.places.len() + 2],
         caps: vec![0; 64],
-    }
+        text: vec![0; seineflute::TEXT_ROOM],
+    };
+    let small = job.places.len() <= SMALL;
+    (0..if small { DESKS } else { 1 }).map(|_| desk()).collect()
 }
 
-/// The time of one call, in nanoseconds; the desk is as the job has it before.
-fn timed(call: Call, job: &Job, desk: &mut Desk, extra: &Extra) -> (u64, (usize, usize)) {
-    desk.places.copy_from_slice(&job.places);
-    desk.cards.copy_from_slice(&job.cards);
+/// The time of a call on each desk, in nanoseconds; each is as the job has it before.
+fn timed(call: Call, job: &Job, desks: &mut [Desk], extra: &Extra) -> (u64, (usize, usize)) {
+    for desk in desks.iter_mut() {
+        desk.places.copy_from_slice(&job.places);
+        desk.cards.copy_from_slice(&job.cards);
+    }
+    let mut got = (0, 0);
     let start = Instant::now();
-    let got = black_box(call(black_box(job), desk, extra));
+    for desk in desks {
+        got = black_box(call(black_box(job), desk, extra));
+    }
     (start.elapsed().as_nanos() as u64, got)
 }
 
-/// The time of one memcpy of n bytes.
-fn copied(n: usize, from: &[u8], to: &mut [u8]) -> u64 {
+/// The time of some copies of n bytes by memcpy.
+fn copied(times: usize, n: usize, from: &[u8], to: &mut [u8]) -> u64 {
     let start = Instant::now();
-    black_box(&mut *to)[..n].copy_from_slice(&black_box(from)[..n]);
+    for _ in 0..times {
+        black_box(&mut *to)[..n].copy_from_slice(&black_box(from)[..n]);
+    }
     start.elapsed().as_nanos() as u64
 }
 
@@ -153,11 +200,13 @@ fn gathered(job: &Job) -> Job {
     desk
 }
 
+/// Times of all variants together, and how many calls and bytes moved they are for.
 struct Times {
     ours: u64,
     engine: u64,
     plain: u64,
     memcpy: u64,
+    calls: usize,
     bytes: usize,
 }
 
@@ -168,10 +217,12 @@ fn measure(call: usize, variants: &[Job], rounds: usize, plain_rounds: usize) ->
         engine: u64::MAX,
         plain: u64::MAX,
         memcpy: u64::MAX,
+        calls: 0,
         bytes: 0,
     };
     let extras: Vec<Extra> = variants.iter().map(extra_of).collect();
-    let mut desks: Vec<Desk> = variants.iter().map(desk).collect();
+    let mut desks: Vec<Vec<Desk>> = variants.iter().map(desks).collect();
+    best.calls = desks.iter().map(Vec::len).sum();
     let mut from = vec![1u8; 4 << 20];
     let mut to = vec![2u8; 4 << 20];
     dirty(&mut from);
@@ -184,15 +235,15 @@ fn measure(call: usize, variants: &[Job], rounds: usize, plain_rounds: usize) ->
             sum[0] += t;
             let (t, engine) = timed(ENGINE[call], job, &mut desks[i], &extras[i]);
             sum[1] += t;
-            assert_eq!(ours, engine, "{}: the versions differ", CALLS[call]);
+            assert_eq!(ours, engine, "{}: the versions differ", ROWS[call].name);
             if round < plain_rounds {
                 let (t, plain) = timed(PLAIN[call], job, &mut desks[i], &extras[i]);
                 sum[2] += t;
-                assert_eq!(ours, plain, "{}: the versions differ", CALLS[call]);
+                assert_eq!(ours, plain, "{}: the versions differ", ROWS[call].name);
             }
-            if MOVING[call] {
+            if ROWS[call].moving {
                 let n = (ours.1 * job.b).min(from.len());
-                sum[3] += copied(n, &from, &mut to);
+                sum[3] += copied(desks[i].len(), n, &from, &mut to);
                 bytes += n;
             }
         }
@@ -216,7 +267,10 @@ fn dirty(list: &mut [u8]) {
 
 type Shape = (&'static str, fn(usize, &mut Dice) -> Job);
 
-const SHAPES: [Shape; 8] = [
+const SHAPES: [Shape; 11] = [
+    ("case 1", shapes::case_1),
+    ("8x8 ring", |b, d| shapes::ring(&[8; 8], b, d)),
+    ("8x8 transposed", |b, d| shapes::transposed(&[8; 8], b, d)),
     ("1x1023 two-cycles", |b, d| shapes::two_cycles(1023, b, d)),
     ("1x1023 one shift", |b, d| shapes::chain(1023, b, d, false)),
     ("1x1023 one cycle", |b, d| shapes::chain(1023, b, d, true)),
@@ -231,15 +285,69 @@ const SHAPES: [Shape; 8] = [
     ("64x63 half full", |b, d| shapes::half_full(&[63; 64], b, d)),
 ];
 
+/// The time of a call, in nanoseconds where microseconds would show 0.
+fn shown(ns: f64) -> String {
+    if ns < 1000.0 {
+        format!("{ns:.0} ns")
+    } else {
+        format!("{:.2} us", ns / 1000.0)
+    }
+}
+
+/// A row for people.
+fn print_row(name: &str, b: usize, call: usize, t: &Times) {
+    let memcpy = if t.bytes > 0 {
+        format!("{:.2}", t.ours as f64 / t.memcpy.max(1) as f64)
+    } else {
+        String::from("-")
+    };
+    println!(
+        "{:<24} {:>3}  {:<10} {:>10} {:>8.2} {:>8.3} {:>8}",
+        name,
+        b,
+        ROWS[call].name,
+        shown(t.ours as f64 / t.calls as f64),
+        t.ours as f64 / t.engine as f64,
+        t.ours as f64 / t.plain as f64,
+        memcpy
+    );
+}
+
+const FIELDS: &str = "job\tB\tcall\tours\tengine\ttext\tmemcpy\tbytes";
+
+/// A row for a script: the fields as `FIELDS` names them. Where nothing is moved, memcpy and the bytes of all variants are 0.
+fn write_row(file: &mut File, name: &str, b: usize, call: usize, t: &Times) {
+    let each = |ns: u64| ns as f64 / t.calls as f64;
+    let memcpy = if t.bytes > 0 { each(t.memcpy) } else { 0.0 };
+    writeln!(
+        file,
+        "{}\t{}\t{}\t{:.1}\t{:.1}\t{:.1}\t{:.1}\t{}",
+        name,
+        b,
+        ROWS[call].name,
+        each(t.ours),
+        each(t.engine),
+        each(t.plain),
+        memcpy,
+        t.bytes
+    )
+    .expect("the table can be written");
+}
+
 fn main() {
     let rounds: usize = std::env::var("ROUNDS")
         .ok()
         .and_then(|x| x.parse().ok())
         .unwrap_or(40);
     let only = std::env::args().nth(1).filter(|x| !x.starts_with("--"));
-    println!("times in microseconds a call (ours), then ratios: ours to the engine in Rust, ours to the text in Rust, ours to memcpy of the bytes moved");
+    let mut table = std::env::var_os("TABLE").map(|path| {
+        let mut file = File::create(path).expect("the table's file can be made");
+        writeln!(file, "{FIELDS}").expect("the table can be written");
+        file
+    });
+    println!("times of a call (ours), then ratios: ours to the engine in Rust, ours to the text in Rust, ours to memcpy of the bytes moved");
     println!(
-        "{:<24} {:>3}  {:<10} {:>9} {:>8} {:>8} {:>8}",
+        "{:<24} {:>3}  {:<10} {:>10} {:>8} {:>8} {:>8}",
         "job", "B", "call", "ours", "engine", "text", "memcpy"
     );
     for (name, make) in SHAPES {
@@ -250,24 +358,13 @@ fn main() {
             let mut dice = Dice::new(2026);
             let away: Vec<Job> = (0..VARIANTS).map(|_| make(b, &mut dice)).collect();
             let home: Vec<Job> = away.iter().map(gathered).collect();
-            for call in 0..CALLS.len() {
-                let jobs = if SHUFFLING[call] { &home } else { &away };
+            for (call, row) in ROWS.iter().enumerate() {
+                let jobs = if row.shuffling { &home } else { &away };
                 let t = measure(call, jobs, rounds, rounds.div_ceil(10));
-                let memcpy = if MOVING[call] && t.bytes > 0 {
-                    format!("{:.2}", t.ours as f64 / t.memcpy.max(1) as f64)
-                } else {
-                    String::from("-")
-                };
-                println!(
-                    "{:<24} {:>3}  {:<10} {:>9.2} {:>8.2} {:>8.3} {:>8}",
-                    name,
-                    b,
-                    CALLS[call],
-                    t.ours as f64 / 1000.0 / VARIANTS as f64,
-                    t.ours as f64 / t.engine as f64,
-                    t.ours as f64 / t.plain as f64,
-                    memcpy
-                );
+                print_row(name, b, call, &t);
+                if let Some(file) = &mut table {
+                    write_row(file, name, b, call, &t);
+                }
             }
         }
     }
