@@ -25,7 +25,9 @@ use Rattle.jobfile.specs.File.{readN, fileRacks, fileBytes, fileChecks, readChe
 use Rattle.jobreader.specs.Reading.{ahead, JobRead}
 use Rattle.jobreader.specs.declared.Reader.{Reader}
 use Rattle.jobreader.specs.declared.JobFile.{JobFile}
-use Rattle.listing.specs.Listing.{refusedLine, fileHeld, runText, programChecks, listing, handedOver, printed}
+use Rattle.texts.specs.Lines.{refusedLine}
+use Rattle.listed.specs.RunText.{runText}
+use Rattle.listing.specs.Listing.{fileHeld, programChecks, listing, handedOver, printed}
 use Rattle.demands.specs.Rows.{None, Holds, Given, _then_}
 use Rattle.demands.specs.FileConditions.{fileRows, NoRoom, FileTooLarge}
 use Rattle.demands.specs.Demand1.{Demand1}

@@ -24,7 +24,9 @@ use Rattle.jobfile.specs.File.{fileRacks, fileBytes, read}
 use Rattle.jobreader.specs.Reading.{ahead, JobRead}
 use Rattle.jobreader.specs.declared.Reader.{Reader}
 use Rattle.jobreader.specs.declared.JobFile.{JobFile}
-use Rattle.listing.specs.Listing.{refusedLine, fileHeld, runText, listing, printed}
+use Rattle.texts.specs.Lines.{refusedLine}
+use Rattle.listed.specs.RunText.{runText}
+use Rattle.listing.specs.Listing.{fileHeld, listing, printed}
 use Rattle.demands.specs.OneOutcome.{jobSeen}
 use Rattle.demands.specs.Rows.{None, Holds, Given, _then_}
 use Rattle.demands.specs.Conditions.{UserSlot, NoSlot, CardAway, TooShort, tableRows, cardRows, endRows}

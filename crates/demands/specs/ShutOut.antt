@@ -17,7 +17,7 @@ use Rattle.moves.specs.Moves.{Held, Outcome}
 use Rattle.moves.specs.Phases.{phases, budgeted}
 use Rattle.copies.specs.Copies.{copyList}
 use Rattle.runs.specs.Run.{gathered, ran}
-use Rattle.listing.specs.Text.{text}
+use Rattle.texts.specs.Text.{text}
 use Rattle.listing.specs.Listing.{listing}
 use Rattle.demands.specs.Paper.{file1}
 

@@ -1,14 +1,13 @@
 -- How long a text is at most: that of a run, that of a refusal, that of any file. Assumes nothing.
-use mathlib.Core.Path.{_≡_, ap, sym, _∙_}
+use mathlib.Core.Path.{_≡_}
 use mathlib.Core.Logic.{_⊎_, inl, inr}
 use mathlib.Core.List.{List}
 use Prim.Native.Nat.{ℕ, zero, suc, _+_, _*_, _≤_, _<_}
 use native.Mathlib.Omega.{arith}
 use native.Mathlib.Nat.{zero-mul, suc-mul}
 use lib.ListN.{length, length-append}
-use Rattle.counting.specs.Lists.{join, table}
+use Rattle.counting.specs.Lists.{join}
 use Rattle.counting.proofs.Tests.{by-test}
-use Rattle.counting.proofs.Lists.{join-more}
 use Rattle.counting.specs.Every.{All}
 use Rattle.counting.proofs.Every.{all-map}
 use Rattle.counting.specs.Every.All.{none, more}
@@ -23,7 +22,6 @@ use Rattle.phases.proofs.Plans.{plan-allowed}
 use Rattle.moves.specs.Moves.{Held, carriedPlaces}
 use Rattle.moves.specs.Phases.{phasesFrom, phases}
 use Rattle.moves.specs.Parts.{AllSlots}
-use Rattle.moves.proofs.Blocks.{below, length-blank}
 use Rattle.moves.proofs.Phases.{phases-moves, phases-pairs}
 use Rattle.moves.proofs.FirstFit.{first-fit}
 use Rattle.copies.specs.Copies.{copyList}
@@ -31,14 +29,15 @@ use Rattle.copies.specs.Chains.{Chained}
 use Rattle.copies.proofs.Chains.{chained}
 use Rattle.copies.proofs.Costs.{list-most}
 use Rattle.copies.proofs.Home.{list-proper}
-use Rattle.shuffle.specs.Shuffle.{brought, isNamed, lastCard, settledHeld}
-use Rattle.shuffle.proofs.Bytes.{length-brought}
-use Rattle.shuffle.proofs.ByteLoops.{block-long}
+use Rattle.shuffle.specs.Shuffle.{settledHeld}
 use Rattle.runs.specs.Run.{gathered, counts}
 use Rattle.runs.proofs.Rounds.{all-counted}
-use Rattle.listing.specs.Listing.{FILE, ENOUGH, endLine, runText}
-use Rattle.listing.proofs.Lines.{phases-small, copies-small, length-cards-whole, end-small}
-use Rattle.runs.proofs.Gathering.{legal-gathered, long-gathered}
+use Rattle.texts.specs.Lines.{endLine}
+use Rattle.listed.specs.RunText.{FILE, runText}
+use Rattle.listing.specs.Listing.{ENOUGH}
+use Rattle.listed.proofs.Settled.{settled-long}
+use Rattle.texts.proofs.Lines.{phases-small, copies-small, length-cards-whole, end-small}
+use Rattle.runs.proofs.Gathering.{legal-gathered}
 
 -- no more phases than fuel
 phases-short : (n : ℕ) (racks : List Rack) (places : List ℕ) → length (phasesFrom n racks places) ≤ n
@@ -66,14 +65,6 @@ copies-slots : {places : List ℕ} → Chained places → AllSlots 65536 (copyLi
 copies-slots {places} ok =
     all-map (λ c p. record { from-lt = end-small-16 (length places) (c .0) (ok .small) (p .source); to-lt = end-small-16 (length places) (c .1) (ok .small) (p .target) }) (list-proper ok)
 
--- cards of b bytes each, joined
-length-blocks : (b s : ℕ) (f : ℕ → List ℕ) → ((d : ℕ) → d < s → length (f d) ≡ b) → length (join (table s f)) ≡ s * b
-unfolding join table
-length-blocks b zero f h = rw zero-mul
-length-blocks b (suc s) f h =
-    rw (join-more s f, suc-mul)
-    (omega (arith, length-append (join (table s f)) (f s), h s (omega arith), length-blocks b s f (λ d l. h d (omega arith))))
-
 -- a run of a legal job
 module _ (racks : List Rack) (b : ℕ) (h : Held) (legal : Legal racks (h .places)) (spared : Spared racks) (small : slots racks ≤ 4096) (long : length (h .cards) ≡ slots racks * b) where
   -- what the phases leave is legal, and its cards are as long
@@ -82,26 +73,6 @@ module _ (racks : List Rack) (b : ℕ) (h : Held) (legal : Legal racks (h .place
 
   abbrev last-places : List ℕ
   last-places = gathered racks b h .places
-
-  abbrev last-brought : List ℕ
-  last-brought = brought b (gathered racks b h .places) (gathered racks b h .cards)
-
-  long-brought : length last-brought ≡ slots racks * b
-  long-brought =
-      let l = legal-last .long in
-      length-brought (chained legal-last small) b (gathered racks b h .cards) (long-gathered racks b h long ∙ ap (λ (n : ℕ). n * b) (sym l)) ∙ ap (λ (n : ℕ). n * b) l
-
-  long-card : (d : ℕ) → d < slots racks → length (lastCard b last-places last-brought d) ≡ b
-  unfolding lastCard
-  long-card d l =
-      by-test (isNamed last-places d)
-      (λ e. rw e (block-long b d last-brought (omega (arith, below b d (slots racks) l, long-brought))))
-      (λ e. rw e (length-blank b))
-
-  -- the cards at the end are S·B bytes
-  pub settled-long : length (settledHeld racks b (gathered racks b h) .cards) ≡ slots racks * b
-  unfolding settledHeld
-  settled-long = length-blocks b (slots racks) (lastCard b last-places last-brought) long-card
 
   -- few phases
   phases-few : length (phases racks (h .places)) ≤ 4096
@@ -143,7 +114,7 @@ module _ (racks : List Rack) (b : ℕ) (h : Held) (legal : Legal racks (h .place
         moves-few,
         copies-small (copyList last-places) (copies-slots (chained legal-last small)),
         copies-few,
-        length-cards-whole (slots racks) b cards settled-long,
+        length-cards-whole (slots racks) b cards (settled-long racks b h legal spared small long),
         spread,
         end-few,
       ))

@@ -13,25 +13,22 @@ use Rattle.counting.proofs.Checks.{first-here, first-later, first-off, first-no
 use Rattle.racks.specs.Racks.{ofCaps, slots}
 use Rattle.racks.specs.Numbers.{cardChecks, tooShort}
 use Rattle.answers.specs.Answers.{answer, noCounts}
-use Rattle.racks.specs.Job.{racksOf, jobOf}
-use Rattle.racks.specs.declared.Job.{Job}
-use Rattle.racks.proofs.Jobs.{sound-refused}
 use Rattle.racks.proofs.LegalTable.{legal, spared-caps}
-use Rattle.tables.proofs.Tables.{Accepted, accepted, of-cards, of-sound, of-racks}
 use Rattle.moves.specs.Parts.{held}
 use Rattle.copies.proofs.Writing.{take-front}
 use Rattle.shuffle.proofs.Shuffles.{cards-good}
-use Rattle.runs.proofs.Ending.{bytes-small}
 use Rattle.jobfile.specs.File.{readM, readEntries, fileRacks, fileBytes, filePlaces, fileCards, fileChecks}
 use Rattle.jobfile.specs.Answers.{cardsOf, doneFile}
 use Rattle.jobfile.specs.Parts.{Parsed}
 use Rattle.jobfile.specs.declared.FileAnswer.{FileAnswer}
 use Rattle.jobfile.proofs.Legal.{file-legal, file-small}
 use Rattle.jobfile.proofs.Files.{answer-number}
-use Rattle.listing.specs.Listing.{FILE, ENOUGH, refusedLine, programChecks, fileHeld, runText, listing, handedOver, Printed, printedOf, printed}
-use Rattle.listing.specs.Writing.{Room}
+use Rattle.texts.specs.Lines.{refusedLine}
+use Rattle.listed.specs.RunText.{FILE, runText}
+use Rattle.listing.specs.Listing.{ENOUGH, programChecks, fileHeld, listing, handedOver, Printed, printedOf, printed}
+use Rattle.texts.specs.Writing.{Room}
 use Rattle.listing.specs.declared.TextAnswer.{TextAnswer}
-use Rattle.listing.proofs.Lines.{refused-small}
+use Rattle.texts.proofs.Lines.{refused-small}
 use Rattle.listing.proofs.Refusals.{number-most}
 use Rattle.listing.proofs.Enough.{run-enough}
 
@@ -140,17 +137,3 @@ module _ (file : List ℕ) where
       pub listing-run : listing file ≡ runText (ofCaps (take (found .racks) caps)) (found .bytes) (held (take (found .slots) places) (cardsOf found file))
       unfolding fileHeld
       listing-run = rw (cards-are, caps-are, bytes-are, p .places-are z) (by-run (passed small ∙ no-check))
-
--- the job of capacities whose table and cards are not refused
-module _ (caps : List ℕ) (job : Job) (is : job ≡ jobOf (ofCaps caps)) (b : ℕ) (places cards : List ℕ) (z : first (cardChecks (ofCaps caps) b places cards) ≡ 0) where
-  -- it passes by the job too
-  pub job-accepted : Accepted job b places cards
-  job-accepted = accepted job b places cards (of-cards caps job is b places cards ∙ z) (of-sound caps job is)
-
-  -- the job's racks are those of the capacities
-  pub job-racks : racksOf job ≡ ofCaps caps
-  job-racks = of-racks caps job is (sound-refused job (job-accepted .sound))
-
-  -- a card has at most 256 bytes
-  pub job-bytes : b ≤ 256
-  job-bytes = bytes-small b (job-accepted .bytes)

@@ -1,10 +1,4 @@
-pub mod Writing
-pub mod Digits
-pub mod Arrows
-pub mod Cards
-pub mod Lines
-pub mod Phasing
 pub mod Enough
 pub mod Refusals
-pub mod Texts
+pub mod Handing
 pub mod Files

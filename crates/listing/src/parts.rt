@@ -1,6 +1,55 @@
-// What writes the listing: words and numbers, arrows, lines, the phases of a run, whole texts.
-pub mod arrows;
-pub mod lines;
-pub mod phasing;
-pub mod texts;
-pub mod words;
+// What writes the listing: the text of a file, and a text handed over into a lent buffer.
+ghost use Prim.Native.Nat.{_≤_};
+ghost use mathlib.Core.Path.{_≡_};
+ghost use lib.ListN.{length, take};
+ghost use Rattle.texts.specs.Writing.{Wrote};
+ghost use Rattle.listing.specs.Listing.{ENOUGH, listing, printedOf, handedOver};
+use crate::TextAnswer;
+use answers::Answer;
+use listed::parts::jobs;
+use texts::parts::lines;
+use texts::parts::words;
+
+// The text of a file: 18 is looked at before all else.
+pub fn put_listing(out: &mut [u8], file: &[u8]) -> usize
+    requires { ⌜ ENOUGH ≤ length (now out) ⌝ }
+    ensures { λ r. ⌜ Wrote (listing (now (file .entry))) (now (out .entry)) 0 (now (out .exit)) r ⌝ }
+{
+    if TextAnswer::FILE < file.len() {
+        return lines::put_refused(out, 0, 18);
+    }
+    let mut caps = [0u16; 64];
+    let mut places = [0u16; 4096];
+    let found = jobfile::parts::parse(file, &mut caps, &mut places);
+    let number = found.answer.number;
+    if number != 0 {
+        return lines::put_refused(out, 0, number);
+    }
+    let racks = found.racks;
+    let slots = found.slots;
+    let bytes = jobfile::card_bytes(file, found);
+    jobs::put_job(
+        out,
+        &caps[..racks],
+        found.bytes,
+        &mut places[..slots],
+        bytes,
+    )
+}
+
+// A text of so many bytes, to the front of the lent buffer; 13 where that is too short for it.
+pub fn hand_over(text: &[u8], size: usize, out: &mut [u8]) -> TextAnswer
+    requires { ⌜ size ≤ length (now text) ⌝ }
+    ensures { λ r. ⌜ printedOf r (now (out .exit)) ≡ handedOver (take size (now (text .entry))) (now (out .entry)) ⌝ }
+{
+    if out.len() < size {
+        let answer = Answer::of(13);
+        return TextAnswer { answer, size: 0 };
+    }
+    let written = words::put_text(out, 0, &text[..size]);
+    let answer = Answer::of(0);
+    TextAnswer {
+        answer,
+        size: written,
+    }
+}

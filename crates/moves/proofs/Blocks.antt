@@ -6,7 +6,7 @@ use Prim.Native.Nat.{ℕ, zero, suc, _+_, _*_, _≤_, _<_}
 use native.Mathlib.Nat.{suc-mul, zero-mul, mul-le-mul-right, add-comm}
 use native.Mathlib.Omega.{arith}
 use native.Mathlib.Decide.{ℕ-discrete, decLt}
-use lib.ListN.{length, take, drop, length-take, length-drop, length-replicate, take-append-drop}
+use lib.ListN.{length, getD, take, drop, length-take, length-drop, length-replicate, take-append-drop}
 use lib.Seq.{sets-eq, length-sets, take-at, drop-at, drop-drop, ext-getD, getD-take, getD-drop, length-take-le}
 use Rattle.counting.specs.Lists.{Pair}
 use Rattle.counting.proofs.Stores.{sets-else}
@@ -17,6 +17,18 @@ use Rattle.moves.proofs.Pairs.{Moved, Ends}
 -- a slot below another ends where that one begins, or before
 pub below : (b g t : ℕ) → g < t → g * b + b ≤ t * b
 below b g t h = rw suc-mul at (mul-le-mul-right b h)
+
+-- a slot's bytes in the buffer
+module _ (b g : ℕ) (cards : List ℕ) where
+  -- one of them
+  pub block-at : (i : ℕ) → i < b → getD (block b g cards) i 0 ≡ getD cards (g * b + i) 0
+  unfolding block
+  block-at i l = getD-take b (drop (g * b) cards) i 0 l ∙ getD-drop (g * b) cards i 0
+
+  -- there are b
+  pub block-long : g * b + b ≤ length cards → length (block b g cards) ≡ b
+  unfolding block
+  block-long l = length-take-le b (drop (g * b) cards) (simp length-drop (omega arith))
 
 -- a store keeps the length of the buffer
 pub length-put : (b g : ℕ) (bytes cards : List ℕ) → length (putBlock b g bytes cards) ≡ length cards
@@ -66,7 +78,7 @@ module _ (b n : ℕ) where
   -- a slot has b bytes
   pub length-block : (g : ℕ) (cards : List ℕ) → length cards ≡ n * b → g < n → length (block b g cards) ≡ b
   unfolding block
-  length-block g cards sized h = length-take-le b (drop (g * b) cards) (simp length-drop (omega (arith, within g cards sized h)))
+  length-block g cards sized h = block-long b g cards (within g cards sized h)
 
   -- the slot stored into has the bytes stored
   pub block-same : (g : ℕ) (bytes cards : List ℕ) → length cards ≡ n * b → g < n → length bytes ≡ b → block b g (putBlock b g bytes cards) ≡ bytes

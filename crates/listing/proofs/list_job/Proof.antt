@@ -2,7 +2,8 @@ use mathlib.Core.Path.{refl, ap, _∙_}
 use native.Mathlib.Omega.{arith}
 use borrow.Author.Needs.{needs}
 use Rattle.listing.specs.Listing.{handedOver, printed}
-use Rattle.listing.proofs.Writing.{wrote-length, wrote-front}
+use Rattle.texts.proofs.Writing.{wrote-length}
+use Rattle.listed.proofs.Writing.{wrote-front}
 use Rattle.listing.proofs.Files.{listing-enough}
 use Rattle.listing.proofs.list_job.Statement.{statement}
 use Rattle.listing.proofs.list_job.Tie as tie

@@ -1,5 +1,6 @@
 use native.Mathlib.Nat.{zero-add}
-use Rattle.shuffle.proofs.ByteLoops.{stored, block-at, block-long}
+use Rattle.shuffle.proofs.ByteLoops.{stored}
+use Rattle.moves.proofs.Blocks.{block-at, block-long}
 use Rattle.copies.proofs.Writing.{take-front, sets-more}
 use Rattle.moves.specs.Blocks.{block}
 use lib.Seq.{sets}

@@ -1,0 +1,5 @@
+pub mod Writing
+pub mod Phasing
+pub mod Settled
+pub mod Texts
+pub mod Jobs

@@ -1,0 +1,3 @@
+// What writes the text of a run: its phases, the whole.
+pub mod jobs;
+pub mod phasing;

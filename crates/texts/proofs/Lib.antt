@@ -1,0 +1,5 @@
+pub mod Writing
+pub mod Digits
+pub mod Arrows
+pub mod Cards
+pub mod Lines
