@@ -21,7 +21,7 @@ use Rattle.answers.specs.Answers.{answer, noCounts}
 use Rattle.racks.specs.declared.Job.{Job}
 use Rattle.answers.specs.declared.Answer.{Answer}
 use Rattle.racks.proofs.Caps.{slots-small}
-use Rattle.racks.proofs.Jobs.{job-good, racks-again, caps-sound}
+use Rattle.racks.proofs.Jobs.{job-good, caps-again, caps-sound}
 use Rattle.jobfile.specs.Number.{Numbers}
 use Rattle.jobfile.specs.File.{entryOf, readN, readB, readM, readEntries, fileRacks, fileBytes, filePlaces, fileCards, fileChecks, readChecks, read}
 use Rattle.jobfile.specs.Answers.{cardsOf, readOf, refusedFile, doneFile, fileAnswer}
@@ -112,7 +112,8 @@ module _ (file : List ℕ) (head : Head) (caps : List ℕ) (h : Headed file head
 
   -- its racks are the file's
   pub job-racks : racksOf job ≡ fileRacks file
-  job-racks = ap racksOf job-is ∙ racks-again (fileRacks file) (h .good)
+  unfolding fileRacks
+  job-racks = ap racksOf job-is ∙ caps-again (readM file .values) (h .good)
 
   -- its slots are the file's
   pub job-slots : job .slots ≡ slots (fileRacks file)

@@ -230,9 +230,8 @@ fn read_table(job: Job, file: &[u8], at: usize, places: &mut [u16; 4096]) -> Tak
     requires { ⌜ Sound job × (length (now places) ≡ 4096) ⌝ }
     ensures { λ r. ⌜ EntriesRead (racksOf job) (now (file .entry)) at r (now (places .exit)) ⌝ }
 {
-    let mut racks = [0u8; 4096];
-    let mut marks = [0u8; 4096];
-    tables::parts::fill_tables(job, &mut racks, &mut marks);
+    let mut marks = [0u8; Job::MAX_SLOTS];
+    tables::parts::mark_users(job, &mut marks);
     read_entries(job, file, at, &mut marks, places)
 }
 
