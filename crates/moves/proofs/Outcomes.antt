@@ -1,13 +1,13 @@
 -- The outcomes of calls that are lent the cards, refused and done, and the number of a move. Assumes nothing.
 use mathlib.Core.Path.{_≡_, ap, sym, _∙_}
 use mathlib.Core.Bool.{not}
-use mathlib.Core.List.{List, [], _∷_}
+use mathlib.Core.List.{List, [], _∷_, _++_}
 use Prim.Native.Nat.{ℕ, _*_}
 use native.Mathlib.Omega.{arith}
 use borrow.Author.Tests.{eq-eqb, ne-eqb}
 use Rattle.counting.specs.Lists.{Pair}
-use Rattle.counting.specs.Checks.{first}
-use Rattle.counting.proofs.Checks.{first-here, first-later}
+use Rattle.counting.specs.Checks.{Check, first, refusal}
+use Rattle.counting.proofs.Checks.{first-here, first-later, refusal-none}
 use Rattle.answers.specs.Answers.{movesOf, answer, noCounts}
 use Rattle.answers.specs.declared.Tally.{Tally}
 use Rattle.answers.specs.declared.Answer.{Answer}
@@ -44,10 +44,19 @@ module _ (caps : List ℕ) (job : Job) (is : job ≡ jobOf (ofCaps caps)) where
       outcome-by (cardsNumber job b (h .places) (h .cards)) (cards-racks job b (h .places) (h .cards)) t new h
       ∙ ap (λ (n : ℕ). outcome n (t (ofCaps caps)) (new (ofCaps caps)) h) (of-cards caps job is b (h .places) (h .cards))
 
+  -- and further checks
+  pub outcome-checks : (b : ℕ) (rest : List Rack → List Check) (t : List Rack → Tally) (new : List Rack → Held) (h : Held)
+      → outcome (first (refusal (cardsNumber job b (h .places) (h .cards)) ∷ rest (racksOf job))) (t (racksOf job)) (new (racksOf job)) h
+      ≡ outcome (first (cardChecks (ofCaps caps) b (h .places) (h .cards) ++ rest (ofCaps caps))) (t (ofCaps caps)) (new (ofCaps caps)) h
+  outcome-checks b rest t new h =
+      outcome-by (first (refusal (cardsNumber job b (h .places) (h .cards)) ∷ rest (racksOf job)))
+      (λ e. cards-racks job b (h .places) (h .cards) (refusal-none (cardsNumber job b (h .places) (h .cards)) _ e)) t new h
+      ∙ ap (λ (n : ℕ). outcome n (t (ofCaps caps)) (new (ofCaps caps)) h) (of-card-checks caps job is b (h .places) (h .cards) rest)
+
   -- one move
   pub moved-by : (b : ℕ) (h : Held) (m : Pair) → movedBy job b h m ≡ moved (ofCaps caps) b h m
   unfolding movedBy moved moveNumber moveChecks
-  moved-by b h m = ap (λ (n : ℕ). outcome n (movesOf 1) (carried b (m ∷ []) h) h) (of-card-checks caps job is b (h .places) (h .cards) (λ (r : List Rack). endChecks r (h .places) m))
+  moved-by b h m = outcome-checks b (λ (r : List Rack). endChecks r (h .places) m) (λ _. movesOf 1) (λ _. carried b (m ∷ []) h) h
 
 -- the number of a move, by the code's tests
 module _ (job : Job) (b : ℕ) (h : Held) (m : Pair) (n : ℕ) where

@@ -8,13 +8,15 @@ use native.Mathlib.Omega.{arith}
 use native.Mathlib.Decide.{ℕ-discrete}
 use lib.Dec.{eqb}
 use lib.ListN.{length}
+use lib.Seq.{sets}
 use borrow.Author.Tests.{eq-eqb, ne-eqb, lt-ltb, le-ltb}
 use Rattle.counting.specs.Tests.{_or_, pick}
 use Rattle.counting.specs.Checks.{Check, first, refusal, done}
 use Rattle.counting.proofs.Tests.{or-l, or-r, or-none, or-false, no-way}
-use Rattle.counting.proofs.Checks.{Marked, first-here, first-later, first-off, first-join, first-refusal}
+use Rattle.counting.proofs.Checks.{Marked, first-here, first-later, first-off, first-join, first-refusal, refusal-none}
 use Rattle.counting.proofs.Checks.Marked.{more, none}
-use Rattle.answers.specs.Answers.{answer, noCounts}
+use Rattle.answers.specs.Answers.{answer, noCounts, listed}
+use Rattle.answers.specs.declared.Tally.{Tally}
 use Rattle.racks.specs.Racks.{Rack, ofCaps, slots}
 use Rattle.racks.specs.Numbers.{badCount, badBytes, badSize, badPlaces, badCards, entryChecks, placesChecks, tableChecks, cardChecks}
 use Rattle.racks.specs.Job.{rackChecks, racksOf, jobOf, Sound, Fit}
@@ -205,6 +207,22 @@ module _ (caps : List ℕ) (job : Job) (is : job ≡ jobOf (ofCaps caps)) where
         ∙ same-racks (tableNumber job places) (number-racks job places) (λ (r : List Rack). first (rest r)) (tableNumber job places)
         ∙ ap (λ (n : ℕ). pick (done n) (first (rest (ofCaps caps))) n) (of-number places)
         ∙ sym (first-join (rest (ofCaps caps)) (table-marked (ofCaps caps) places))
+
+    number : ℕ
+    number = first (refusal (tableNumber job places) ∷ rest (racksOf job))
+
+    number-open : number ≡ 0 → job .refused ≡ 0
+    unfolding number
+    number-open e = number-racks job places (refusal-none (tableNumber job places) _ e)
+
+    -- a call that writes into a lent list gives the outcome of the capacities
+    pub listed-by : (t : List Rack → Tally) (out : List Rack → List ℕ) (lent : List ℕ)
+        → listed (first (refusal (tableNumber job places) ∷ rest (racksOf job))) (t (racksOf job)) (out (racksOf job)) lent
+        ≡ listed (first (tableChecks (ofCaps caps) places ++ rest (ofCaps caps))) (t (ofCaps caps)) (out (ofCaps caps)) lent
+    unfolding number
+    listed-by t out lent =
+        rw (same-racks number number-open t noCounts, same-racks number number-open (λ (r : List Rack). sets lent 0 (out r)) lent)
+        (ap (λ (n : ℕ). listed n (t (ofCaps caps)) (out (ofCaps caps)) lent) of-checks)
 
   -- and after those of the table and its cards
   module _ (b : ℕ) (places cards : List ℕ) (rest : List Rack → List Check) where
