@@ -25,7 +25,7 @@ module _ (words : List ℕ) (w word : ℕ) where
 
 module _ {words : List ℕ} (t : Topped words) (w word : ℕ) (h : w < 64) where
   -- as many words as before
-  filled-long : length (filled words w word) ≡ 65
+  filled-long : length (filled words w word) ≡ 66
   unfolding filled
   filled-long = by-test (eqb word 0)
       (λ z. rw z (length-set words w word ∙ t .long))

@@ -2,7 +2,7 @@
 use mathlib.Core.Path.{_≡_, sym, ap, _∙_}
 use mathlib.Core.Bool.{true, false, not}
 use mathlib.Core.List.{List}
-use Prim.Native.Nat.{ℕ, _/_, _%_, _<_}
+use Prim.Native.Nat.{ℕ, _/_, _%_, _^_, _<_}
 use native.Mathlib.Nat.{le-of-eq, lt-of-le-of-lt}
 use native.Mathlib.Omega.{arith}
 use native.Mathlib.Decide.{ℕ-discrete}
@@ -27,16 +27,16 @@ same-number : (k g : ℕ) → k / 64 ≡ g / 64 → k % 64 ≡ g % 64 → k ≡ 
 same-number k g e f = omega arith
 
 -- the empty set has no number
-pub is-none : (g : ℕ) → isOn (replicate 65 0) g ≡ false
+pub is-none : (g : ℕ) → isOn (replicate 66 0) g ≡ false
 unfolding isOn
-is-none g = ap (λ (x : ℕ). bitOn x (g % 64)) (zeros 65 (g / 64)) ∙ bit-none (g % 64)
+is-none g = ap (λ (x : ℕ). bitOn x (g % 64)) (zeros 66 (g / 64)) ∙ bit-none (g % 64)
 
 -- and its last word says so of each word
-pub topped-none : Topped (replicate 65 0)
+pub topped-none : Topped (replicate 66 0)
 topped-none = record {
-  long = length-replicate {A = ℕ} 65 0;
-  small = λ w. lt-of-le-of-lt (le-of-eq (zeros 65 w)) (pow-pos 64);
-  tops = λ w h. bit-none w ∙ ap (λ (x : ℕ). not (eqb x 0)) (sym (zeros 65 w));
+  long = length-replicate {A = ℕ} 66 0;
+  small = λ w. lt-of-le-of-lt (le-of-eq (zeros 66 w)) (pow-pos 64);
+  tops = λ w h. bit-none w ∙ ap (λ (x : ℕ). not (eqb x 0)) (sym (zeros 66 w));
 }
 
 -- a set has as many words as before
@@ -45,13 +45,13 @@ unfolding marked
 length-marked words g = length-set (set words (g / 64) (turnedOn (getD words (g / 64) 0) (g % 64))) 64 _ ∙ length-set words (g / 64) _
 
 -- the words of the set with g: g's own, the last, and any other
-marked-own : (words : List ℕ) (g : ℕ) → length words ≡ 65 → g < 4096 → getD (marked words g) (g / 64) 0 ≡ turnedOn (getD words (g / 64) 0) (g % 64)
+marked-own : (words : List ℕ) (g : ℕ) → length words ≡ 66 → g < 4096 → getD (marked words g) (g / 64) 0 ≡ turnedOn (getD words (g / 64) 0) (g % 64)
 unfolding marked
 marked-own words g e h =
     getD-set-other (set words (g / 64) (turnedOn (getD words (g / 64) 0) (g % 64))) 64 (g / 64) _ 0 (λ q. omega arith)
     ∙ getD-set-same words (g / 64) _ 0 (omega arith)
 
-marked-last : (words : List ℕ) (g : ℕ) → length words ≡ 65 → g < 4096 → getD (marked words g) 64 0 ≡ turnedOn (getD words 64 0) (g / 64)
+marked-last : (words : List ℕ) (g : ℕ) → length words ≡ 66 → g < 4096 → getD (marked words g) 64 0 ≡ turnedOn (getD words 64 0) (g / 64)
 unfolding marked
 marked-last words g e h =
     getD-set-same (set words (g / 64) (turnedOn (getD words (g / 64) 0) (g % 64))) 64 _ 0 (omega (arith, length-set words (g / 64) (turnedOn (getD words (g / 64) 0) (g % 64))))
@@ -85,7 +85,7 @@ length-cleared words g =
     (λ e. ap length (cleared-some words g e) ∙ length-set words (g / 64) _)
 
 -- the words of the set without g: g's own, the last in either case, and any other
-cleared-own : (words : List ℕ) (g : ℕ) → length words ≡ 65 → g < 4096 → getD (cleared words g) (g / 64) 0 ≡ wordOff words g
+cleared-own : (words : List ℕ) (g : ℕ) → length words ≡ 66 → g < 4096 → getD (cleared words g) (g / 64) 0 ≡ wordOff words g
 cleared-own words g e h =
     by-test (eqb (wordOff words g) 0)
     (λ z. ap (λ (l : List ℕ). getD l (g / 64) 0) (cleared-none words g z)
@@ -93,7 +93,7 @@ cleared-own words g e h =
     ∙ getD-set-same words (g / 64) _ 0 (omega arith))
     (λ z. ap (λ (l : List ℕ). getD l (g / 64) 0) (cleared-some words g z) ∙ getD-set-same words (g / 64) _ 0 (omega arith))
 
-cleared-last-off : (words : List ℕ) (g : ℕ) → length words ≡ 65 → g < 4096 → eqb (wordOff words g) 0 ≡ true
+cleared-last-off : (words : List ℕ) (g : ℕ) → length words ≡ 66 → g < 4096 → eqb (wordOff words g) 0 ≡ true
     → getD (cleared words g) 64 0 ≡ turnedOff (getD words 64 0) (g / 64)
 cleared-last-off words g e h z =
     ap (λ (l : List ℕ). getD l 64 0) (cleared-none words g z)
@@ -112,12 +112,12 @@ cleared-else words g v p q =
     (λ z. ap (λ (l : List ℕ). getD l v 0) (cleared-some words g z) ∙ getD-set-other words (g / 64) v _ 0 q)
 
 -- a number marked is in the set
-pub marked-here : (words : List ℕ) (g : ℕ) → length words ≡ 65 → g < 4096 → isOn (marked words g) g ≡ true
+pub marked-here : (words : List ℕ) (g : ℕ) → length words ≡ 66 → g < 4096 → isOn (marked words g) g ≡ true
 unfolding isOn
 marked-here words g e h = ap (λ (x : ℕ). bitOn x (g % 64)) (marked-own words g e h) ∙ turned-on-here (getD words (g / 64) 0) (g % 64)
 
 -- and every other as it was
-pub marked-other : (words : List ℕ) (g k : ℕ) → length words ≡ 65 → g < 4096 → k < 4096 → (k ≡ g → ⊥) → isOn (marked words g) k ≡ isOn words k
+pub marked-other : (words : List ℕ) (g k : ℕ) → length words ≡ 66 → g < 4096 → k < 4096 → (k ≡ g → ⊥) → isOn (marked words g) k ≡ isOn words k
 unfolding isOn
 marked-other words g k e h l f = elim (ℕ-discrete (k / 64) (g / 64)) [
   | yes q ↦
@@ -129,12 +129,12 @@ marked-other words g k e h l f = elim (ℕ-discrete (k / 64) (g / 64)) [
 ]
 
 -- a number cleared is not in the set
-pub cleared-here : (words : List ℕ) (g : ℕ) → length words ≡ 65 → g < 4096 → isOn (cleared words g) g ≡ false
+pub cleared-here : (words : List ℕ) (g : ℕ) → length words ≡ 66 → g < 4096 → isOn (cleared words g) g ≡ false
 unfolding isOn wordOff
 cleared-here words g e h = ap (λ (x : ℕ). bitOn x (g % 64)) (cleared-own words g e h) ∙ turned-off-here (getD words (g / 64) 0) (g % 64)
 
 -- and every other as it was
-pub cleared-other : (words : List ℕ) (g k : ℕ) → length words ≡ 65 → g < 4096 → k < 4096 → (k ≡ g → ⊥) → isOn (cleared words g) k ≡ isOn words k
+pub cleared-other : (words : List ℕ) (g k : ℕ) → length words ≡ 66 → g < 4096 → k < 4096 → (k ≡ g → ⊥) → isOn (cleared words g) k ≡ isOn words k
 unfolding isOn wordOff
 cleared-other words g k e h l f = elim (ℕ-discrete (k / 64) (g / 64)) [
   | yes q ↦
@@ -212,3 +212,19 @@ module _ (words : List ℕ) (g word : ℕ) where
     pub clear-code-kept : (word ≡ 0 → ⊥) → set words (g / 64) word ≡ cleared words g
     unfolding wordOff
     clear-code-kept z = rw p (sym (cleared-some words g (ne-eqb (wordOff words g) 0 (λ e. z (p ∙ e)))))
+
+-- the 66th word is not the set's: another one there changes no number of it
+module _ (words : List ℕ) (x : ℕ) where
+  pub beside-kept : (k : ℕ) → k < 4096 → isOn (set words 65 x) k ≡ isOn words k
+  unfolding isOn
+  beside-kept k h = ap (λ (y : ℕ). bitOn y (k % 64)) (getD-set-other words 65 (k / 64) x 0 (λ q. omega arith))
+
+  pub topped-beside : Topped words → x < 2 ^ 64 → Topped (set words 65 x)
+  topped-beside t h = record {
+    long = length-set words 65 x ∙ t .long;
+    small = λ w. elim (ℕ-discrete w 65) [
+      | yes q ↦ rw (q, getD-set-same words 65 x 0 (omega (arith, t .long))) h
+      | no q ↦ rw (getD-set-other words 65 w x 0 q) (t .small w)
+    ];
+    tops = λ w l. rw (getD-set-other words 65 64 x 0 (λ q. omega arith), getD-set-other words 65 w x 0 (λ q. omega arith)) (t .tops w l);
+  }

@@ -1,6 +1,6 @@
 -- A walk over a set, word by word: where it starts, how it goes on to another word, and the next number that it finds. Assumes nothing.
 use mathlib.Core.Path.{_≡_, refl, sym, ap, _∙_}
-use mathlib.Core.Bool.{false, not}
+use mathlib.Core.Bool.{true, false, not}
 use mathlib.Core.List.{List}
 use Prim.Native.Nat.{ℕ, _+_, _-_, _*_, _/_, _%_, _^_, _≤_, _<_, min}
 use native.Mathlib.Omega.{arith}
@@ -8,7 +8,7 @@ use native.Mathlib.Decide.{ℕ-discrete, decLt, decLe}
 use lib.Dec.{eqb}
 use lib.ListN.{getD}
 use Rattle.counting.proofs.Tests.{no-way}
-use Rattle.bits.specs.Bits.{bitOn, turnedOff, isOn, Topped, Next, Walking, Walked}
+use Rattle.bits.specs.Bits.{bitOn, turnedOff, isOn, Topped, Next, Walking, Onward, Walked}
 use Rattle.bits.proofs.Words.{bit-none, bit-shift, turned-off-here, turned-off-other}
 use Rattle.bits.proofs.Trailing.{all-off, bit-over}
 use Rattle.bits.proofs.Nexts.{is-on-at, top-off}
@@ -44,9 +44,6 @@ module _ {words : List ℕ} {t at rest : ℕ} (w : Walking words t at rest) wher
         let s : at + (k - at) ≡ k = omega arith in
         ap (isOn words) (sym s) ∙ sym (w .ahead (k - at) (omega arith) (omega arith)) ∙ ap (λ (x : ℕ). bitOn x (k - at)) e ∙ bit-none (k - at)
   ]
-
-  walk-stays : rest ≡ 0 → Walking words t at 0
-  walk-stays e = rw e at w
 
   -- nor is any of the words up to the next that has a bit on
   walk-words : Topped words → rest ≡ 0 → {v : ℕ} → Next (bitOn (getD words 64 0)) (at / 64 + 1) 64 v → (k : ℕ) → t ≤ k → k < v * 64 → isOn words k ≡ false
@@ -115,24 +112,39 @@ module _ {words : List ℕ} {t at rest : ℕ} (w : Walking words t at rest) wher
       over = λ k l. turned-off-other rest b k (λ i. let s : (at + k) / 64 ≡ at / 64 = rw i bit-in-word in omega arith) ∙ w .over k l;
     }
 
-module _ {words : List ℕ} {high at rest : ℕ} where
-  -- the ways a walk goes on: something of the word is left
-  pub walked-same : (rest ≡ 0 → ⊥) → Walked words high at rest at rest
-  walked-same f = record { kept = λ t w. w; none = λ t w e. absurd (f e) }
+module _ {words : List ℕ} {at rest : ℕ} where
+  -- where a walk has come to t and a number from t on is in the set, it can go on
+  pub onward : {t k : ℕ} → Walking words t at rest → t ≤ k → k < 4096 → isOn words k ≡ true → Onward words at rest
+  onward {t} {k} w l m o = record {
+    later = λ e. record {
+      k = k;
+      after = elim (decLt k ((at / 64 + 1) * 64)) [ yes i ↦ absurd (no-way o (walk-word w e k l i)) | no i ↦ omega arith ];
+      within = m;
+      on = o;
+    };
+  }
 
-  module _ (e : rest ≡ 0) where
-    -- the word is the last below high
-    pub walked-last : high ≤ (at / 64 + 1) * 64 → Walked words high at rest at 0
-    walked-last l = record { kept = λ t w. walk-stays w e; none = λ t w _ k m i. walk-word w e k m (omega arith) }
+  -- the ways a walk goes on: something of the word is left
+  pub walked-same : (rest ≡ 0 → ⊥) → Walked words at rest at rest
+  walked-same f = record { kept = λ t w. w; left = f }
+
+  module _ (e : rest ≡ 0) (n : Onward words at rest) where
+    -- there are words behind it
+    pub later-in : at / 64 + 1 ≤ 64
+    later-in = let r = n .later e in omega (arith, r .after, r .within)
 
     module _ (p : Topped words) {v : ℕ} (o : Next (bitOn (getD words 64 0)) (at / 64 + 1) 64 v) where
-      -- no other below high has a bit on
-      pub walked-none : high ≤ v * 64 → Walked words high at rest at 0
-      walked-none l = record { kept = λ t w. walk-stays w e; none = λ t w _ k m i. walk-words w p e o k m (omega arith) }
+      -- one of them has a bit on
+      pub later-lt : v < 64
+      later-lt = let r = n .later e in elim (decLt v 64) [
+        | yes l ↦ l
+        | no l ↦ absurd (no-way (r .on) (is-on-at words (r .k) (r .k / 64) (r .k % 64) refl refl
+            ∙ top-off p (r .k / 64) (r .k % 64) (omega (arith, r .within)) (o .passed (r .k / 64) (omega (arith, r .after)) (omega (arith, r .within)))))
+      ]
 
-      -- another has
-      pub walked-word : v < 64 → Walked words high at rest (v * 64) (getD words v 0)
-      walked-word h = record {
-        kept = λ t w. walk-to w p e o h;
-        none = λ t w z. absurd (no-way (sym (p .tops v h) ∙ o .hit h) (ap (λ (x : ℕ). not (eqb x 0)) z));
+      -- it is walked next
+      pub walked-word : Walked words at rest (v * 64) (getD words v 0)
+      walked-word = record {
+        kept = λ t w. walk-to w p e o later-lt;
+        left = λ z. no-way (sym (p .tops v later-lt) ∙ o .hit later-lt) (ap (λ (x : ℕ). not (eqb x 0)) z);
       }

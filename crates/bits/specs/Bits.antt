@@ -1,4 +1,4 @@
--- Words of 64 bits; and sets of numbers below 4,096, a bit for each in 64 words, with a 65th word that says which of them have a bit on.
+-- Words of 64 bits; and sets of numbers below 4,096, a bit for each in 64 words, with a 65th word that says which of them have a bit on, and one more that is not the set's.
 -- Assumes nothing: these are definitions.
 use mathlib.Core.Path.{_≡_}
 use mathlib.Core.Bool.{Bool, true, false, not}
@@ -50,9 +50,9 @@ filled words w word =
     let words′ = set words w word in
     pick (eqb word 0) words′ (set words′ 64 (turnedOn (getD words′ 64 0) w))
 
--- 64 words, and a 65th in which a word's bit is on exactly where the word has one
+-- 64 words, a 65th in which a word's bit is on exactly where the word has one, and a 66th
 pub record Topped (words : List ℕ) : Type 0 where
-  pub long : length words ≡ 65
+  pub long : length words ≡ 66
   pub small : (w : ℕ) → getD words w 0 < 2 ^ 64
   pub tops : (w : ℕ) → w < 64 → bitOn (getD words 64 0) w ≡ not (eqb (getD words w 0) 0)
 
@@ -72,7 +72,18 @@ pub record Walking (words : List ℕ) (t at rest : ℕ) : Type 0 where
   pub ahead : (k : ℕ) → t ≤ at + k → (at + k) / 64 ≡ at / 64 → bitOn rest k ≡ isOn words (at + k)
   pub over : (k : ℕ) → at / 64 < (at + k) / 64 → bitOn rest k ≡ false
 
--- a walk goes on, to a later word maybe, wherever it has come to; where nothing is left then, no number from there up to high is in the set
-pub record Walked (words : List ℕ) (high at rest at′ rest′ : ℕ) : Type 0 where
+-- a word behind that of `at` has number k of the set
+pub record Later (words : List ℕ) (at : ℕ) : Type 0 where
+  pub k : ℕ
+  pub after : (at / 64 + 1) * 64 ≤ k
+  pub within : k < 4096
+  pub on : isOn words k ≡ true
+
+-- a walk can go on: something of the word is left, or a later one has a number
+pub record Onward (words : List ℕ) (at rest : ℕ) : Type 0 where
+  pub later : rest ≡ 0 → Later words at
+
+-- a walk goes on, to a later word maybe, wherever it has come to; something is left then
+pub record Walked (words : List ℕ) (at rest at′ rest′ : ℕ) : Type 0 where
   pub kept : (t : ℕ) → Walking words t at rest → Walking words t at′ rest′
-  pub none : (t : ℕ) → Walking words t at rest → rest′ ≡ 0 → (k : ℕ) → t ≤ k → k < high → isOn words k ≡ false
+  pub left : rest′ ≡ 0 → ⊥

@@ -2,7 +2,7 @@
 ghost use mathlib.Core.Path.{_≡_};
 ghost use Prim.Native.Nat.{_≤_, _<_};
 ghost use lib.ListN.{length};
-ghost use Rattle.bits.specs.Bits.{bitOn, turnedOn, turnedOff, marked, filled, cleared, Topped, Next, Walking, Walked};
+ghost use Rattle.bits.specs.Bits.{bitOn, turnedOn, turnedOff, marked, filled, cleared, Topped, Next, Walking, Onward, Walked};
 
 // The first bit of a word from bit s up that is on; 64 where none is.
 pub fn next_on(word: u64, s: usize) -> usize
@@ -36,8 +36,8 @@ pub fn turn_off(word: u64, b: usize) -> u64
 }
 
 // Number g into the set.
-pub fn mark(words: &mut [u64; 65], g: usize)
-    requires { ⌜ (length (now words) ≡ 65) × (g < 4096) ⌝ }
+pub fn mark(words: &mut [u64; 66], g: usize)
+    requires { ⌜ (length (now words) ≡ 66) × (g < 4096) ⌝ }
     ensures { λ _. ⌜ now (words .exit) ≡ marked (now (words .entry)) g ⌝ }
 {
     let w = g / 64;
@@ -46,8 +46,8 @@ pub fn mark(words: &mut [u64; 65], g: usize)
 }
 
 // A word of numbers into the set, where it had none.
-pub fn fill_word(words: &mut [u64; 65], w: usize, word: u64)
-    requires { ⌜ (length (now words) ≡ 65) × (w < 64) ⌝ }
+pub fn fill_word(words: &mut [u64; 66], w: usize, word: u64)
+    requires { ⌜ (length (now words) ≡ 66) × (w < 64) ⌝ }
     ensures { λ _. ⌜ now (words .exit) ≡ filled (now (words .entry)) w word ⌝ }
 {
     words[w] = word;
@@ -57,8 +57,8 @@ pub fn fill_word(words: &mut [u64; 65], w: usize, word: u64)
 }
 
 // Number g out of the set.
-pub fn clear(words: &mut [u64; 65], g: usize)
-    requires { ⌜ (length (now words) ≡ 65) × (g < 4096) ⌝ }
+pub fn clear(words: &mut [u64; 66], g: usize)
+    requires { ⌜ (length (now words) ≡ 66) × (g < 4096) ⌝ }
     ensures { λ _. ⌜ now (words .exit) ≡ cleared (now (words .entry)) g ⌝ }
 {
     let w = g / 64;
@@ -76,29 +76,22 @@ pub struct Walk {
 }
 
 // A walk starts at any number, with what its word has from there up.
-pub fn walk_from(words: &[u64; 65], low: usize) -> u64
+pub fn walk_from(words: &[u64; 66], low: usize) -> u64
     requires { ⌜ (low ≤ 4096) × Topped (now words) ⌝ }
     ensures { λ r. ⌜ Walking (now (words .entry)) low low r ⌝ }
 {
     words[low / 64] >> (low % 64)
 }
 
-// A walk goes on: where nothing of the word is left, to the next that has a bit on, if it begins below `high`.
-pub fn walk_on(words: &[u64; 65], at: usize, rest: u64, high: usize) -> Walk
-    requires { ⌜ (at ≤ 4096) × (high ≤ 4096) × Topped (now words) ⌝ }
-    ensures { λ r. ⌜ Walked (now (words .entry)) high at rest (r .at) (r .rest) ⌝ }
+// A walk goes on: where nothing of the word is left, to the next that has a bit on. There is one.
+pub fn walk_on(words: &[u64; 66], at: usize, rest: u64) -> Walk
+    requires { ⌜ (at ≤ 4096) × Onward (now words) at rest × Topped (now words) ⌝ }
+    ensures { λ r. ⌜ Walked (now (words .entry)) at rest (r .at) (r .rest) ⌝ }
 {
     if rest != 0 {
         return Walk { at, rest };
     }
-    let w = at / 64 + 1;
-    if high <= w * 64 {
-        return Walk { at, rest: 0 };
-    }
-    let v = next_on(words[64], w);
-    if high <= v * 64 {
-        return Walk { at, rest: 0 };
-    }
+    let v = next_on(words[64], at / 64 + 1);
     Walk {
         at: v * 64,
         rest: words[v],
