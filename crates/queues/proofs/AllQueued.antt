@@ -1,69 +1,114 @@
--- After all slots the queues and the set of free slots are the rows of the table. Assumes nothing.
-use mathlib.Core.Path.{_≡_, ap, _∙_}
+-- After all slots the line and the set of free slots are the rows of the table. Assumes nothing.
+use mathlib.Core.Path.{_≡_, sym, ap, _∙_}
+use mathlib.Core.Bool.{Bool, true, false}
 use mathlib.Core.List.{List}
-use Prim.Native.Nat.{ℕ, suc, _≤_, _<_}
+use Prim.Native.Nat.{ℕ, suc, _+_, _^_, _≤_, _<_}
 use native.Mathlib.Omega.{arith}
-use lib.ListN.{length, getD}
-use Rattle.counting.specs.Checks.{first}
-use Rattle.counting.proofs.Tests.{no-way}
-use Rattle.counting.proofs.Lists.{length-table}
-use Rattle.racks.specs.Racks.{Rack, base, slots}
-use Rattle.racks.specs.Numbers.{tableChecks}
-use Rattle.racks.specs.Job.{endAt, racksOf, Sound}
+use native.Mathlib.Decide.{ℕ-discrete, decLt}
+use lib.Dec.{ltb}
+use lib.ListN.{length, getD, set}
+use lib.Seq.{getD-set-same}
+use borrow.Author.Tests.{le-ltb}
+use Rattle.counting.specs.Tests.{pick}
+use Rattle.counting.proofs.Tests.{by-test}
+use Rattle.racks.specs.Racks.{Rack, slots}
+use Rattle.racks.specs.Job.{racksOf}
 use Rattle.racks.specs.declared.Job.{Job}
 use Rattle.racks.proofs.Geometry.{base-mono, end-le}
-use Rattle.racks.proofs.Jobs.{sound-few, sound-ends}
-use Rattle.racks.proofs.LegalTable.{legal}
-use Rattle.tables.specs.Tables.{Filled}
-use Rattle.bits.specs.Bits.{ALL}
-use Rattle.bits.proofs.Words.{bit-all}
-use Rattle.queues.specs.Queues.{rowsOf}
-use Rattle.queues.specs.Queued.{Firsts}
-use Rattle.queues.specs.Openings.{Opened}
+use Rattle.racks.proofs.Jobs.{sound-few}
+use Rattle.tables.specs.Tables.{Open}
+use Rattle.bits.specs.Bits.{bitOn, turnedOn}
+use Rattle.bits.proofs.Words.{bit-none, turned-on-here, turned-on-other}
+use Rattle.bits.proofs.Sets.{beside-kept, topped-beside}
+use Rattle.queues.specs.Line.{headOf, tailOf}
+use Rattle.queues.specs.Queues.{rowsOf, Visitable}
+use Rattle.queues.specs.Queued.{begins, Placed, Awaiting}
+use Rattle.queues.specs.Openings.{Opened, Shown}
 use Rattle.queues.specs.Ready.{Ready}
-use Rattle.queues.proofs.Fits.{tailAt, tail-up, tail-in}
+use Rattle.queues.proofs.Line.{queue-long}
+use Rattle.queues.proofs.OpenSlots.{opens-roomy}
+use Rattle.queues.proofs.Fits.{tailAt, tail-up, tail-room}
 use Rattle.queues.proofs.Queueing.{Tabled, Queueing}
 
--- the list has where each rack ends
-pub record Lasts (racks : List Rack) (list : List ℕ) : Type 0 where
-  pub slots-are : (p : ℕ) → p < length racks → getD list p 0 ≡ base racks (suc p)
-  pub long : length list ≡ 64
+-- a job that is open, with its table and each slot's rack
+pub job-tabled : (job : Job) (places racking : List ℕ) → Open job places racking → Tabled (racksOf job) places racking
+job-tabled job places racking o = record { legal = o .legal; filled = o .filled; small = o .sound .small; few = sound-few job (o .sound) }
 
--- a job's list is such
-pub job-lasts : (job : Job) → Sound job → Lasts (racksOf job) (job .ends)
-job-lasts job s = record { slots-are = sound-ends job s; long = ap (λ (j : Job). length (j .ends)) (s .is) ∙ length-table 64 (endAt (racksOf job)) }
+-- no rack waits yet
+pub awaiting-none : (line : List ℕ) → Awaiting 0 line 0
+awaiting-none line = record { racks-are = λ p l. absurd (omega arith); rest = λ p l. bit-none p }
 
--- a sound job, a table that is not refused, and each slot's rack
-pub job-tabled : (job : Job) (places table : List ℕ) → Sound job × Filled (racksOf job) table × (first (tableChecks (racksOf job) places) ≡ 0) → Tabled (racksOf job) places table
-job-tabled job places table s = record { legal = legal (racksOf job) places (s .2); filled = s .1; small = s .0 .small; few = sound-few job (s .0); spared = s .0 .spared }
+-- one rack more
+pub awaiting-more : {n : ℕ} {line : List ℕ} {word word′ : ℕ} → Awaiting n line word → word′ ≡ pick (ltb (headOf line n) (tailOf line n)) (turnedOn word n) word → Awaiting (n + 1) line word′
+awaiting-more {n} {line} {word} {word′} a e = record {
+  racks-are = λ p l. elim (ℕ-discrete p n) [
+    | yes i ↦ rw i here
+    | no i ↦ kept p i ∙ a .racks-are p (omega arith)
+  ];
+  rest = λ p l. kept p (λ i. omega arith) ∙ a .rest p (omega arith);
+}
+  where
+    here : bitOn word′ n ≡ ltb (headOf line n) (tailOf line n)
+    here = by-test (ltb (headOf line n) (tailOf line n)) (λ t. rw (e, t) (turned-on-here word n)) (λ t. rw (e, t) (a .rest n (omega arith)))
 
-module _ (racks : List Rack) (places table : List ℕ) (t : Tabled racks places table) where
-  -- the queues end in the list
-  tail-small : (p : ℕ) → p < length racks → tailAt racks places (slots racks) p ≤ 4096
-  tail-small p l = omega (arith, tail-in racks places p (t .legal) (slots racks) (omega arith), end-le racks p l, t .small)
+    kept : (p : ℕ) → (p ≡ n → ⊥) → bitOn word′ p ≡ bitOn word p
+    kept p d = by-test (ltb (headOf line n) (tailOf line n)) (λ t. rw (e, t) (turned-on-other word n p d)) (λ t. rw (e, t))
 
-  -- the rows after all slots, with every rack's bit on
-  pub queues-ready : (queue first tails last bits : List ℕ) → Firsts racks first → Queueing racks places (slots racks) queue tails → Lasts racks last
-      → Opened places bits → Ready racks places (rowsOf queue first tails first last bits ALL)
-  queues-ready queue first tails last bits f q e c =
+module _ (racks : List Rack) (places racking : List ℕ) (t : Tabled racks places racking) where
+  -- the rows after all slots
+  pub queues-ready : (n : ℕ) (start line bits : List ℕ) (word : ℕ) → n ≡ length racks → word < 2 ^ 64 → Placed racks places n start → Queueing racks places start (slots racks) line
+      → Opened places bits → Awaiting n line word → Ready racks places (rowsOf line (set bits 65 word))
+  unfolding begins
+  queues-ready n start line bits word en fw f q c a =
       record {
         bounded =
             record {
-              few = t .few;
-              queue-long = q .queue-long;
-              heads-long = f .long;
-              tails-long = q .tails-long;
-              firsts-long = f .long;
-              ends-long = e .long;
-              queued = λ p l. omega (arith, f .slots-are p l, q .tails-are p l, tail-up racks places p (slots racks));
-              within = λ p l. omega (arith, q .tails-are p l, tail-small p l);
-              begun = λ p l. omega (arith, f .slots-are p l, e .slots-are p l, base-mono racks p (suc p) (omega arith));
-              ended = λ p l. omega (arith, e .slots-are p l, end-le racks p l, t .small);
-              topped = c .topped;
-              idle = λ p l o. absurd (no-way (bit-all p (omega (arith, t .few))) o);
+              queue-long = queue-long line (q .long);
+              racks = visitable;
+              topped = topped-beside bits word (c .topped) fw;
+              exact = λ p l. ap (λ (w : ℕ). bitOn w p) (getD-set-same bits 65 word 0 (omega (arith, c .topped .long))) ∙ exact p l;
             };
-        waits = λ p l. rw (f .slots-are p l, q .tails-are p l) (q .waits p l);
-        shown = λ k l. c .shown k (omega (arith, t .legal .long));
-        firsts-are = f .slots-are;
-        ends-are = e .slots-are;
+        few = t .few;
+        small = t .small;
+        waits = λ p l. rw (head-is p l, q .tails-are p l) (q .waits p l);
+        shown = shown;
+        rooms-are = λ p l. q .rooms-same p (omega (arith, t .few)) ∙ f .rooms-are p (omega arith);
+        lows-are = λ p l. q .lows-same p (omega (arith, t .few)) ∙ f .lows-are p (omega arith);
+        others = λ p l m. head-none p l m ∙ sym (tail-none p l m);
       }
+    where
+      head-is : (p : ℕ) → p < length racks → headOf line p ≡ begins racks p
+      head-is p l = q .heads-same p (omega (arith, t .few)) ∙ f .heads-are p (omega arith)
+
+      head-none : (p : ℕ) → length racks ≤ p → p < 64 → headOf line p ≡ 0
+      head-none p l m = q .heads-same p m ∙ f .heads-none p (omega arith) m
+
+      tail-none : (p : ℕ) → length racks ≤ p → p < 64 → tailOf line p ≡ 0
+      tail-none p l m = q .tails-same p l m ∙ f .tails-none p (omega arith) m
+
+      shown : Shown (slots racks) places (set bits 65 word)
+      shown k l = beside-kept bits word k (omega (arith, t .small)) ∙ c .shown k (omega (arith, t .legal .long))
+
+      visitable : (p : ℕ) → p < 64 → Visitable (rowsOf line (set bits 65 word)) p
+      visitable p m = elim (decLt p (length racks)) [
+        | yes l ↦
+            let low : rowsOf line (set bits 65 word) .lows p ≡ _ = q .lows-same p m ∙ f .lows-are p (omega arith) in
+            record {
+              queued = omega (arith, head-is p l, q .tails-are p l, tail-up racks places p (slots racks));
+              within = omega (arith, q .tails-are p l, tail-room racks places p (t .legal) (slots racks) (omega arith), end-le racks p l, t .small);
+              low-in = omega (arith, low, base-mono racks p (suc p) (omega arith), end-le racks p l, t .small);
+              roomy = rw low (omega (arith, q .rooms-same p m, f .rooms-are p (omega arith), opens-roomy racks places p l (t .small) (set bits 65 word) shown));
+            }
+        | no l ↦ record {
+          queued = omega (arith, head-none p (omega arith) m);
+          within = omega (arith, tail-none p (omega arith) m);
+          low-in = omega (arith, q .lows-same p m, f .lows-none p (omega arith) m);
+          roomy = omega (arith, q .rooms-same p m, f .rooms-none p (omega arith) m);
+        }
+      ]
+
+      exact : (p : ℕ) → p < 64 → bitOn word p ≡ ltb (headOf line p) (tailOf line p)
+      exact p m = elim (decLt p (length racks)) [
+        | yes l ↦ a .racks-are p (omega arith)
+        | no l ↦ a .rest p (omega arith) ∙ sym (le-ltb (headOf line p) (tailOf line p) (omega (arith, tail-none p (omega arith) m)))
+      ]

@@ -10,23 +10,29 @@ use Rattle.counting.specs.Count.{count}
 use Rattle.counting.proofs.Count.{pigeonhole, count-all, count-none, count-on, count-off}
 use Rattle.racks.specs.Racks.{Rack, users, base, slots, rackOf, spareOf}
 use Rattle.racks.specs.Table.{dest, free, rackTo, awayTo}
-use Rattle.racks.proofs.Geometry.{rack-in, spare-is, spare-end, user-is}
-use Rattle.racks.specs.Legal.{Legal, Spared}
+use Rattle.racks.proofs.Geometry.{base-mono, rack-in, spare-is, spare-end, user-is}
+use Rattle.racks.specs.Legal.{Legal}
 use Rattle.racks.proofs.LegalTable.{legal-dest}
 use Rattle.racks.proofs.Away.{away-held, to-away, to-rack}
+use Rattle.queues.specs.Queued.{begins}
+
+-- a queue behind another begins behind its end
+pub begins-mono : (racks : List Rack) (p q : ℕ) → p < q → begins racks (suc p) ≤ begins racks q
+unfolding begins
+begins-mono racks p q l = omega (arith, base-mono racks (suc p) q l)
 
 -- where the queue of rack p ends after the first g slots
 unfoldable pub tailAt : List Rack → List ℕ → ℕ → ℕ → ℕ
-tailAt racks places g p = base racks p + count g (awayTo racks places p)
+tailAt racks places g p = begins racks p + count g (awayTo racks places p)
 
 module _ (racks : List Rack) (places : List ℕ) (p : ℕ) where
   -- at first it ends where it begins
-  pub tail-none : tailAt racks places 0 p ≡ base racks p
+  pub tail-none : tailAt racks places 0 p ≡ begins racks p
   unfolding tailAt
   tail-none = omega (arith, count-none (awayTo racks places p))
 
   -- a queue begins before it ends
-  pub tail-up : (g : ℕ) → base racks p ≤ tailAt racks places g p
+  pub tail-up : (g : ℕ) → begins racks p ≤ tailAt racks places g p
   unfolding tailAt
   tail-up g = omega arith
 
@@ -75,12 +81,7 @@ module _ (racks : List Rack) (places : List ℕ) (p : ℕ) where
               v .once j k (omega arith) (omega arith) (to-held j (omega arith) a) (omega arith)),
         )
 
-    -- so p's queue ends within p
-    pub tail-in : (g : ℕ) → g ≤ slots racks → tailAt racks places g p ≤ base racks (suc p)
-    unfolding tailAt
-    tail-in g m = omega (arith, queue-fits g m, spare-is racks p, spare-end racks p)
-
-    -- and, since p has a spare, before p's end
-    pub tail-room : Spared racks → p < length racks → (g : ℕ) → g ≤ slots racks → tailAt racks places g p < base racks (suc p)
-    unfolding tailAt
-    tail-room s h g m = omega (arith, queue-fits g m, spare-is racks p, s .spare p h)
+    -- so p's queue ends within its places, one of which is left
+    pub tail-room : (g : ℕ) → g ≤ slots racks → tailAt racks places g p < begins racks (suc p)
+    unfolding tailAt begins
+    tail-room g m = omega (arith, queue-fits g m, spare-is racks p, spare-end racks p)

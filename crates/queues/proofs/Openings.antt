@@ -6,17 +6,18 @@ use Prim.Native.Nat.{ℕ, zero, suc, _+_, _*_, _-_, _/_, _%_, _^_, _≤_, _<_, m
 use native.Mathlib.Omega.{arith}
 use native.Mathlib.Nat.{pow-suc, lt-of-lt-of-le}
 use native.Mathlib.Decide.{ℕ-discrete}
-use lib.ListN.{length, getD, replicate}
+use lib.ListN.{length, getD}
 use lib.Pow.{pow-pos, pow-mono}
 use Rattle.counting.specs.Tests.{bit}
 use Rattle.counting.proofs.Tests.{bit-le}
-use Rattle.counting.proofs.Lists.{zeros}
 use Rattle.racks.specs.Table.{free}
 use Rattle.bits.specs.Bits.{bitOn, isOn, filled, Topped}
 use Rattle.bits.proofs.Words.{bit-none, doubled-low, doubled-up}
 use Rattle.bits.proofs.Sets.{topped-none}
 use Rattle.bits.proofs.Fills.{filled-here, filled-other, filled-else, topped-filled}
+use Rattle.queues.specs.Line.{Blank}
 use Rattle.queues.specs.Openings.{Word, Opened}
+use Rattle.queues.proofs.Line.{blank-is}
 
 module _ (places : List ℕ) (high : ℕ) where
   -- a word of no slots
@@ -61,8 +62,8 @@ pub record OpenedTo (places : List ℕ) (w : ℕ) (bits : List ℕ) : Type 0 whe
 
 module _ (places : List ℕ) where
   -- none is found
-  pub opened-none : OpenedTo places 0 (replicate 65 0)
-  opened-none = record { topped = topped-none; shown = λ k l m. absurd (omega arith); rest = λ v l m. zeros 65 v }
+  pub opened-none : {bits : List ℕ} → Blank 66 bits → OpenedTo places 0 bits
+  opened-none e = record { topped = rw (blank-is e) topped-none; shown = λ k l m. absurd (omega arith); rest = λ v l m. e .zero v }
 
   -- all are found
   pub opened-all : {w : ℕ} {bits : List ℕ} → OpenedTo places w bits → length places ≤ w * 64 → Opened places bits

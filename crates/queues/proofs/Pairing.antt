@@ -1,155 +1,160 @@
 -- Laws of writing the pairs of one target: what one pair more does to the list, and when all are written. Assumes nothing.
-use mathlib.Core.Path.{_≡_, refl}
-use mathlib.Core.Bool.{false}
+use mathlib.Core.Path.{_≡_, refl, ap, _∙_}
+use mathlib.Core.Bool.{true}
 use mathlib.Core.List.{List, [], _∷_}
-use Prim.Native.Nat.{ℕ, _+_, _*_, _-_, _≤_, _<_}
+use Prim.Native.Nat.{ℕ, _+_, _*_, _-_, _^_, _≤_, _<_, min}
 use native.Mathlib.Omega.{arith}
 use native.Mathlib.Numerals.{add-one}
+use native.Mathlib.Decide.{decLt}
 use lib.ListN.{length, getD, set, length-set}
 use lib.Seq.{sets, slice-empty, slice-cons, length-slice}
 use Rattle.counting.specs.Lists.{pairUp, flat}
-use Rattle.counting.proofs.Pairs.{length-pairUp, pairUp-nil}
+use Rattle.counting.proofs.Tests.{no-way}
+use Rattle.counting.proofs.Pairs.{length-pairUp}
 use Rattle.counting.proofs.Stores.{sets-flat-none, sets-flat-more}
-use Rattle.bits.specs.Bits.{bitOn, turnedOff, isOn, Next, Walking, Walked}
-use Rattle.bits.proofs.Walks.{walk-next, walk-more}
-use Rattle.queues.specs.Queues.{opens, part, served, Written}
-use Rattle.queues.proofs.Opens.{open-over, open-none, open-first}
+use Rattle.bits.specs.Bits.{bitOn, turnedOff, isOn, Topped, Next, Walking, Onward, Walked}
+use Rattle.bits.proofs.Walks.{onward, walk-next, walk-more, some-bit}
+use Rattle.queues.specs.Line.{queueOf, headOf, tailOf, roomOf, lowOf}
+use Rattle.queues.specs.Queues.{Rows, rowsOf, opens, part, served, sent, pairsFor, Visitable, visited, Visited}
+use Rattle.queues.proofs.Opens.{open-some, open-first}
 
-module _ (bits queue : List ℕ) (head tail low high : ℕ) where
-  -- no card waits: no pair
-  pub served-end : head ≡ tail → served bits queue head tail low high ≡ []
+module _ (bits queue : List ℕ) (head end low : ℕ) where
+  -- no card is taken: no pair
+  pub served-end : head ≡ end → served bits queue head end low ≡ []
   unfolding served part pairUp
-  served-end e = rw (e, slice-empty tail queue)
+  served-end e = rw (e, slice-empty end queue)
 
-  -- no more pairs than cards that wait
-  pub served-le : head ≤ tail → tail ≤ length queue → head + length (served bits queue head tail low high) ≤ tail
+  -- as many pairs as cards are taken, where there are slots for them
+  pub served-long : end ≤ length queue → end ≤ head + length (opens bits low 4096) → length (served bits queue head end low) ≡ end - head
   unfolding served part
-  served-le l q =
-      omega (arith, length-pairUp (part queue head tail) (opens bits low high), length-slice head tail queue q)
+  served-long l m = omega (arith, length-pairUp (part queue head end) (opens bits low 4096), length-slice head end queue l)
 
-  -- no slot is free: no pair
-  pub served-over : ((k : ℕ) → low ≤ k → k < high → isOn bits k ≡ false) → served bits queue head tail low high ≡ []
-  unfolding served
-  served-over f = rw (open-over bits low high f) (pairUp-nil (part queue head tail))
+  -- t is the next free slot, and a card is left: the two are the first pair
+  pub served-first : {t : ℕ} → Next (isOn bits) low 4096 t → head < end → end ≤ length queue → t < 4096
+      → served bits queue head end low ≡ (getD queue head 0, t) ∷ served bits queue (head + 1) end (t + 1)
+  unfolding served part pairUp
+  served-first o l q m = rw (open-first bits o 4096 m (omega arith), slice-cons head end queue 0 l q, add-one head)
 
-  -- t is the next free slot
-  module _ {t : ℕ} (o : Next (isOn bits) low 4096 t) where
-    -- behind the rack: no pair
-    pub served-full : high ≤ t → served bits queue head tail low high ≡ []
-    unfolding served
-    served-full l = rw (open-none bits o high l) (pairUp-nil (part queue head tail))
+-- the pairs of a rack that can be visited
+module _ (rows : Rows) (p : ℕ) (v : Visitable rows p) where
+  -- no more cards than wait
+  pub sent-le : rows .heads p + sent rows p ≤ rows .tails p
+  unfolding sent
+  sent-le = omega (arith, v .queued)
 
-    -- in the rack, and a card waits: the two are the first pair
-    pub served-first : head < tail → tail ≤ length queue → t < high → high ≤ 4096
-        → served bits queue head tail low high ≡ (getD queue head 0, t) ∷ served bits queue (head + 1) tail (t + 1) high
-    unfolding served part pairUp
-    served-first l q m m′ = rw (open-first bits o high m m′, slice-cons head tail queue 0 l q, add-one head)
+  -- there are slots for them
+  pub sent-roomy : rows .heads p + sent rows p ≤ rows .heads p + length (opens (rows .bits) (rows .lows p) 4096)
+  unfolding sent
+  sent-roomy = omega (arith, v .roomy)
+
+  -- as many as the rack takes
+  pub pairs-long : length (rows .queue) ≡ 4160 → length (pairsFor rows p) ≡ sent rows p
+  unfolding pairsFor
+  pairs-long q =
+      omega (arith, served-long (rows .bits) (rows .queue) (rows .heads p) (rows .heads p + sent rows p) (rows .lows p) (omega (arith, sent-le, v .within)) sent-roomy)
+
+-- no card waits: no pair
+pub pairs-none : (rows : Rows) (p : ℕ) → rows .tails p ≤ rows .heads p → pairsFor rows p ≡ []
+unfolding pairsFor sent
+pairs-none rows p l = served-end (rows .bits) (rows .queue) (rows .heads p) (rows .heads p + sent rows p) (rows .lows p) (omega arith)
 
 -- what is left to write behind k, of the cards from h on and the slots from t on, is what there was to write from `at` on
-pub record Left (bits queue : List ℕ) (head tail low high : ℕ) (before : List ℕ) (at : ℕ) (after : List ℕ) (h t k : ℕ) : Type 0 where
+pub record Left (bits queue : List ℕ) (head end low : ℕ) (before : List ℕ) (at : ℕ) (after : List ℕ) (h t k : ℕ) : Type 0 where
   pub up : head ≤ h
-  pub h-in : h ≤ tail
-  pub t-in : t ≤ high
+  pub h-in : h ≤ end
+  pub t-in : t ≤ 4096
+  pub roomy : end ≤ h + length (opens bits t 4096)
   pub long : length after ≡ length before
-  pub list : sets after k (flat (served bits queue h tail t high)) ≡ sets before at (flat (served bits queue head tail low high))
-  pub all : head + length (served bits queue head tail low high) ≡ h + length (served bits queue h tail t high)
+  pub list : sets after k (flat (served bits queue h end t)) ≡ sets before at (flat (served bits queue head end low))
   pub behind : k + 2 * head ≡ at + 2 * h
 
-module _ {bits queue : List ℕ} {head tail low high : ℕ} {before : List ℕ} {at : ℕ} where
-  -- all is left
-  pub left-all : head ≤ tail → low ≤ high → Left bits queue head tail low high before at before head low at
-  left-all l m = record { up = omega arith; h-in = l; t-in = m; long = refl; list = refl; all = refl; behind = refl }
-
-  module _ {after : List ℕ} {h t k : ℕ} (l : Left bits queue head tail low high before at after h t k) where
-    -- nothing is left: all is written
-    left-done : served bits queue h tail t high ≡ [] → Written (served bits queue head tail low high) before at after (h - head)
-    left-done e =
-        let c = rw e at (l .all) in
-        record { list = rw (e, sets-flat-none after k) at (l .list); count-is = omega arith }
-
-    -- no card is left
-    pub left-none : tail ≤ h → Written (served bits queue head tail low high) before at after (tail - head)
-    left-none m =
-        let e : h ≡ tail = omega (arith, l .h-in) in
-        let d : tail - head ≡ h - head = omega arith in
-        rw d (left-done (served-end bits queue h tail t high e))
-
-    -- no slot from t on is free
-    pub left-over : ((i : ℕ) → t ≤ i → i < high → isOn bits i ≡ false) → Written (served bits queue head tail low high) before at after (h - head)
-    left-over f = left-done (served-over bits queue h tail t high f)
-
-    -- t′ is the next free slot from t on
-    module _ {t′ : ℕ} (o : Next (isOn bits) t 4096 t′) where
-      -- no slot of the rack is left
-      pub left-full : high ≤ t′ → Written (served bits queue head tail low high) before at after (h - head)
-      left-full m = left-done (served-full bits queue h tail t high o m)
-
-      -- a card and a slot are left
-      module _ (m : h < tail) (q : tail ≤ length queue) (i : t′ < high) (j : high ≤ 4096) where
-        first : served bits queue h tail t high ≡ (getD queue h 0, t′) ∷ served bits queue (h + 1) tail (t′ + 1) high
-        first = served-first bits queue h tail t high o m q i j
-
-        -- one pair more fits the list
-        pub left-room : at + 2 * length (served bits queue head tail low high) ≤ length before → k + 2 ≤ length after
-        left-room r =
-            let c = rw first at (l .all) in
-            omega (arith, l .behind, l .long, l .up)
-
-        -- they are the next pair
-        pub left-more : Left bits queue head tail low high before at (set (set after k (getD queue h 0)) (k + 1) t′) (h + 1) (t′ + 1) (k + 2)
-        left-more =
-            let c = rw first at (l .all) in
-            record {
-              up = omega (arith, l .up);
-              h-in = omega arith;
-              t-in = omega arith;
-              long = simp length-set (l .long);
-              list = rw (first, sets-flat-more after k (getD queue h 0) t′ (served bits queue (h + 1) tail (t′ + 1) high)) at (l .list);
-              all = omega arith;
-              behind = omega (arith, l .behind);
-            }
-
 -- the same, where a walk over the free slots has come to t
-pub record Paired (bits queue : List ℕ) (head tail low high : ℕ) (before : List ℕ) (at : ℕ) (after : List ℕ) (h k base rest : ℕ) : Type 0 where
+pub record Paired (bits queue : List ℕ) (head end low : ℕ) (before : List ℕ) (at : ℕ) (after : List ℕ) (h k base rest : ℕ) : Type 0 where
   pub t : ℕ
-  pub left : Left bits queue head tail low high before at after h t k
+  pub left : Left bits queue head end low before at after h t k
   pub walking : Walking bits t base rest
 
-module _ {bits queue : List ℕ} {head tail low high : ℕ} {before : List ℕ} {at : ℕ} where
-  -- the walk starts at the rack's first slot
-  pub paired-all : head ≤ tail → low ≤ high → {rest : ℕ} → Walking bits low low rest → Paired bits queue head tail low high before at before head at low rest
-  paired-all l m w = record { t = low; left = left-all l m; walking = w }
+module _ {bits queue : List ℕ} {head end low : ℕ} {before : List ℕ} {at : ℕ} where
+  -- all is left: the walk starts at the rack's first slot
+  pub paired-all : head ≤ end → low ≤ 4096 → end ≤ head + length (opens bits low 4096) → {rest : ℕ} → Walking bits low low rest
+      → Paired bits queue head end low before at before head at low rest
+  paired-all l m n w = record {
+    t = low;
+    left = record { up = omega arith; h-in = l; t-in = m; roomy = n; long = refl; list = refl; behind = refl };
+    walking = w;
+  }
 
-  module _ {after : List ℕ} {h k base rest : ℕ} (l : Paired bits queue head tail low high before at after h k base rest) where
-    -- it goes on
-    module _ {base′ rest′ : ℕ} (w : Walked bits high base rest base′ rest′) where
-      on : Walking bits (l .t) base′ rest′
-      on = w .kept (l .t) (l .walking)
+  module _ {after : List ℕ} {h k base rest : ℕ} (l : Paired bits queue head end low before at after h k base rest) where
+    -- no card is left: all is written
+    pub paired-done : end ≤ h → after ≡ sets before at (flat (served bits queue head end low))
+    paired-done m =
+        let e : h ≡ end = omega (arith, l .left .h-in) in
+        rw (served-end bits queue h end (l .t) e, sets-flat-none after k) at (l .left .list)
 
-      -- it begins no further than behind the last slot
-      pub paired-few : base′ ≤ 4096
-      paired-few = on .few
+    -- a card is left
+    module _ (m : h < end) where
+      -- and a slot
+      some : (i : ℕ) × (l .t ≤ i) × (i < 4096) × (isOn bits i ≡ true)
+      some = open-some bits (l .t) 4096 (omega (arith, l .left .roomy))
 
-      -- nothing is left of it: no slot of the rack is
-      pub paired-over : rest′ ≡ 0 → Written (served bits queue head tail low high) before at after (h - head)
-      paired-over e = left-over (l .left) (w .none (l .t) (l .walking) e)
+      -- so the walk can go on
+      pub paired-onward : Onward bits base rest
+      paired-onward = onward (l .walking) (some .1) (some .2) (some .3)
 
-      -- b is the first bit that is left
-      module _ {b : ℕ} (o : Next (bitOn rest′) 0 64 b) (f : b < 64) (j : high ≤ 4096) where
-        -- its slot lies behind the rack
-        pub paired-full : high ≤ base′ + b → Written (served bits queue head tail low high) before at after (h - head)
-        paired-full m = left-full (l .left) (walk-next on o f (omega (arith, l .left .t-in)) refl) (omega arith)
+      -- it goes on, and b is the first bit that is left
+      module _ {base′ rest′ b : ℕ} (w : Walked bits base rest base′ rest′) (f : rest′ < 2 ^ 64) (o : Next (bitOn rest′) 0 64 b) where
+        on : Walking bits (l .t) base′ rest′
+        on = w .kept (l .t) (l .walking)
 
-        -- its slot lies in the rack, and a card is left
-        module _ (m : h < tail) (q : tail ≤ length queue) (i : base′ + b < high) where
-          slot : Next (isOn bits) (l .t) 4096 (base′ + b)
-          slot = walk-next on o f (omega (arith, l .left .t-in)) (omega arith)
+        pub paired-bit : b < 64
+        paired-bit = some-bit rest′ b f (w .left) o
 
-          -- one pair more fits the list
-          pub paired-room : at + 2 * length (served bits queue head tail low high) ≤ length before → k + 2 ≤ length after
-          paired-room r = left-room (l .left) slot m q i j r
+        -- its slot is the next that is free
+        pub paired-slot : base′ + b < 4096
+        paired-slot = elim (decLt (base′ + b) 4096) [
+          | yes i ↦ i
+          | no i ↦
+              let n : Next (isOn bits) (l .t) 4096 4096 = walk-next on o paired-bit (l .left .t-in) (omega arith) in
+              absurd (no-way (some .3) (n .passed (some .0) (some .1) (some .2)))
+        ]
 
-          -- they are the next pair
-          pub paired-more : {rest″ : ℕ} → rest″ ≡ turnedOff rest′ b
-              → Paired bits queue head tail low high before at (set (set after k (getD queue h 0)) (k + 1) (base′ + b)) (h + 1) (k + 2) base′ rest″
-          paired-more e = record { t = base′ + b + 1; left = left-more (l .left) slot m q i j; walking = rw e (walk-more on o f) }
+        slot : Next (isOn bits) (l .t) 4096 (base′ + b)
+        slot = walk-next on o paired-bit (l .left .t-in) (omega (arith, paired-slot))
+
+        -- one pair more fits the list
+        pub paired-room : at + 2 * (end - head) ≤ length before → k + 2 ≤ length after
+        paired-room r = omega (arith, l .left .behind, l .left .long, l .left .up)
+
+        -- they are the next pair
+        pub paired-more : end ≤ length queue → {x rest″ : ℕ} → x ≡ getD queue h 0 → rest″ ≡ turnedOff rest′ b
+            → Paired bits queue head end low before at (set (set after k x) (k + 1) (base′ + b)) (h + 1) (k + 2) base′ rest″
+        paired-more q {x} {rest″} ex e =
+            let first = served-first bits queue h end (l .t) slot m q paired-slot in
+            record {
+              t = base′ + b + 1;
+              left = record {
+                up = omega (arith, l .left .up);
+                h-in = omega arith;
+                t-in = omega (arith, paired-slot);
+                roomy = omega (arith, l .left .roomy, ap length (open-first bits slot 4096 paired-slot (omega arith)));
+                long = simp length-set (l .left .long);
+                list = rw ex (rw (first, sets-flat-more after k (getD queue h 0) (base′ + b) (served bits queue (h + 1) end (base′ + b + 1))) at (l .left .list));
+                behind = omega (arith, l .left .behind);
+              };
+              walking = rw e (walk-more on o paired-bit);
+            }
+
+-- a visit of rack p, as the code makes it: it takes the smaller of room and cards
+module _ (line bits : List ℕ) (p made : ℕ) (e : made ≡ min (roomOf line p) (tailOf line p - headOf line p)) where
+  pub visit-made : made ≡ sent (rowsOf line bits) p
+  unfolding sent
+  visit-made = e
+
+  pub visit-done : (log : List ℕ) (at : ℕ) (log′ : List ℕ) → log′ ≡ sets log at (flat (served bits (queueOf line) (headOf line p) (headOf line p + made) (lowOf line p)))
+      → Visited line bits p log at (set (set line (4160 + p) (headOf line p + made)) (4288 + p) (roomOf line p - made)) log′ made
+  unfolding visited pairsFor
+  visit-done log at log′ w = record {
+    made-is = visit-made;
+    list = w ∙ ap (λ (m : ℕ). sets log at (flat (served bits (queueOf line) (headOf line p) (headOf line p + m) (lowOf line p)))) visit-made;
+    line-is = refl;
+  }

@@ -2,24 +2,27 @@
 use mathlib.Core.Path.{_≡_, refl, sym, ap, _∙_}
 use mathlib.Core.Bool.{true, false}
 use mathlib.Core.List.{List, [], _++_, append-nil}
-use Prim.Native.Nat.{ℕ, zero, suc, _+_, _*_, _≤_, _<_, min}
+use Prim.Native.Nat.{ℕ, zero, suc, _+_, _*_, _-_, _^_, _≤_, _<_}
 use native.Mathlib.Omega.{arith}
 use native.Mathlib.Numerals.{add-one}
 use native.Mathlib.Decide.{ℕ-discrete, decLe}
 use lib.Dec.{ltb}
-use lib.ListN.{length, getD, set, length-set, length-append}
-use lib.Seq.{length-sets, getD-set-same, getD-set-other}
+use lib.ListN.{length, getD, set, length-append}
+use lib.Seq.{sets, length-sets, getD-set-same}
 use borrow.Author.Tests.{ltb-false}
 use Rattle.counting.specs.Tests.{pick}
 use Rattle.counting.specs.Lists.{table, join, flat}
 use Rattle.counting.proofs.Tests.{by-test, no-way}
 use Rattle.counting.proofs.Select.{sum-mono, sum-more}
 use Rattle.counting.proofs.Lists.{join-more, length-join}
-use Rattle.counting.proofs.Stores.{sets-flat-none, sets-flat-append}
-use Rattle.bits.specs.Bits.{bitOn, turnedOff, Next}
+use Rattle.counting.proofs.Stores.{length-flat, flat-append, sets-append, sets-flat-none}
+use Rattle.bits.specs.Bits.{bitOn, turnedOff, Topped, Next}
 use Rattle.bits.proofs.Words.{turned-off-here, turned-off-other}
-use Rattle.queues.specs.Queues.{Rows, pairsFor, queuedPlan, served, Bounded, Written, PhasePlanned}
-use Rattle.queues.proofs.Pairing.{served-end, served-le}
+use Rattle.bits.proofs.Sets.{beside-kept, topped-beside}
+use Rattle.queues.specs.Line.{headOf, tailOf}
+use Rattle.queues.specs.Queues.{Rows, rowsOf, sent, pairsFor, queuedPlan, Visitable, Bounded, visited, Visited, Passed, Plannable, PhasePlanned}
+use Rattle.queues.proofs.Line.{visited-long, visited-queue, visited-head, visited-room, visited-heads, visited-tails, visited-rooms, visited-lows}
+use Rattle.queues.proofs.Pairing.{sent-le, pairs-long, pairs-none}
 
 module _ (rows : Rows) where
   -- the plan of no racks
@@ -45,21 +48,25 @@ module _ (rows : Rows) where
         sum-mono (p + 1) n sized (omega arith),
       )
 
--- p of n racks are planned; the queues and the bits of the others are those of the start
-pub record Planned (n p : ℕ) (rows : Rows) (before after : List ℕ) (count : ℕ) (heads : List ℕ) (waiting : ℕ) : Type 0 where
-  pub few : p ≤ n
-  pub done : PhasePlanned p rows before after count heads waiting
-  pub heads-rest : (q : ℕ) → p ≤ q → getD heads q 0 ≡ getD (rows .heads) q 0
-  pub bits-rest : (q : ℕ) → p ≤ q → bitOn waiting q ≡ bitOn (rows .waiting) q
+-- a rack that can be visited still can be where its numbers are the same
+pub visit-same : {rows rows′ : Rows} {p : ℕ} → rows′ .heads p ≡ rows .heads p → rows′ .tails p ≡ rows .tails p → rows′ .lows p ≡ rows .lows p → rows′ .rooms p ≡ rows .rooms p
+    → rows′ .bits ≡ rows .bits → Visitable rows p → Visitable rows′ p
+visit-same h t l r b v = record {
+  queued = rw (h, t) (v .queued);
+  within = rw t (v .within);
+  low-in = rw l (v .low-in);
+  roomy = rw (r, l, b) (v .roomy);
+}
 
--- the next rack's numbers are within their bounds
-pub record Inside (p : ℕ) (rows : Rows) (after : List ℕ) (count : ℕ) (heads : List ℕ) : Type 0 where
-  pub rack : p < 64
-  pub head : getD heads p 0 ≤ getD (rows .tails) p 0
-  pub tail : getD (rows .tails) p 0 ≤ 4096
-  pub low : getD (rows .firsts) p 0 ≤ getD (rows .ends) p 0
-  pub high : getD (rows .ends) p 0 ≤ 4096
-  pub room : 2 * count + 2 * length (pairsFor rows p) ≤ length after
+-- p racks are planned; the bits of the others are those of the start
+pub record Planned (p : ℕ) (line bits log : List ℕ) (at : ℕ) (line′ log′ : List ℕ) (count waiting : ℕ) : Type 0 where
+  pub few : p ≤ 64
+  pub list : log′ ≡ sets log at (flat (queuedPlan p (rowsOf line bits)))
+  pub count-is : count ≡ length (queuedPlan p (rowsOf line bits))
+  pub passed : Passed p (rowsOf line bits) (rowsOf line′ bits)
+  pub long : length line′ ≡ 4416
+  pub exact : (q : ℕ) → q < p → bitOn waiting q ≡ ltb (headOf line′ q) (tailOf line′ q)
+  pub bits-rest : (q : ℕ) → p ≤ q → bitOn waiting q ≡ bitOn (getD bits 65 0) q
 
 -- the racks still to be visited: none before p, and from p on those that waited at the start
 pub record Ahead (p start left : ℕ) : Type 0 where
@@ -102,60 +109,77 @@ module _ {p start left : ℕ} (a : Ahead p start left) where
     }
 
 -- the racks before p are planned, and p is the next to be visited, or there is none
-pub record Reached (n p : ℕ) (rows : Rows) (before after : List ℕ) (count : ℕ) (heads : List ℕ) (waiting left : ℕ) : Type 0 where
-  pub planned : Planned n (min p n) rows before after count heads waiting
+pub record Reached (p : ℕ) (line bits log : List ℕ) (at : ℕ) (line′ log′ : List ℕ) (count waiting left : ℕ) : Type 0 where
+  pub planned : Planned p line bits log at line′ log′ count waiting
   pub hit : p < 64 → bitOn waiting p ≡ true
-  pub within : p ≤ 64
-  pub ahead : Ahead p (rows .waiting) left
+  pub ahead : Ahead p (getD bits 65 0) left
 
-module _ {n : ℕ} {rows : Rows} {before : List ℕ} (b : Bounded n rows) where
+module _ {line bits log : List ℕ} {at : ℕ} (b : Plannable line bits log at) where
+  abbrev rows : Rows
+  rows = rowsOf line bits
+
   -- no rack is planned yet
-  planned-none : Planned n 0 rows before before 0 (rows .heads) (rows .waiting)
+  planned-none : Planned 0 line bits log at line log 0 (getD bits 65 0)
   planned-none =
       record {
         few = omega arith;
-        done = record {
-          list = rw (queued-none rows, sets-flat-none before 0);
-          count-is = rw (queued-none rows);
+        list = rw (queued-none rows, sets-flat-none log at);
+        count-is = rw (queued-none rows);
+        passed = record {
+          queue-is = refl;
+          tails-are = λ q l. refl;
+          lows-are = λ q l. refl;
           heads-are = λ q l. absurd (omega arith);
-          heads-long = b .heads-long;
-          idle = λ q l. absurd (omega arith);
+          rooms-are = λ q l. absurd (omega arith);
+          heads-rest = λ q l m. refl;
+          rooms-rest = λ q l m. refl;
         };
-        heads-rest = λ q l. refl;
+        long = b .long;
+        exact = λ q l. absurd (omega arith);
         bits-rest = λ q l. refl;
       }
 
-  module _ {after : List ℕ} {count : ℕ} {heads : List ℕ} {waiting : ℕ} where
+  module _ {line′ log′ : List ℕ} {count waiting : ℕ} where
     -- a rack whose bit is off has no pair
-    planned-skip : {p : ℕ} → Planned n p rows before after count heads waiting → p < n → bitOn waiting p ≡ false → Planned n (p + 1) rows before after count heads waiting
-    unfolding pairsFor
+    planned-skip : {p : ℕ} → Planned p line bits log at line′ log′ count waiting → p < 64 → bitOn waiting p ≡ false → Planned (p + 1) line bits log at line′ log′ count waiting
+    unfolding sent
     planned-skip {p} s m o =
-        let rest = s .heads-rest p (omega arith) in
-        let over : getD (rows .tails) p 0 ≤ getD (rows .heads) p 0 = b .idle p m (sym (s .bits-rest p (omega arith)) ∙ o) in
-        let none : pairsFor rows p ≡ [] = served-end (rows .bits) (rows .queue) (getD (rows .heads) p 0) (getD (rows .tails) p 0) (getD (rows .firsts) p 0) (getD (rows .ends) p 0) (omega (arith, b .queued p m)) in
+        let off : ltb (headOf line p) (tailOf line p) ≡ false = sym (b .bounded .exact p m) ∙ sym (s .bits-rest p (omega arith)) ∙ o in
+        let over : tailOf line p ≤ headOf line p = ltb-false _ _ off in
+        let none : pairsFor rows p ≡ [] = pairs-none rows p over in
         let same : queuedPlan (p + 1) rows ≡ queuedPlan p rows = queued-more rows p ∙ rw (none, append-nil) in
+        let h : headOf line′ p ≡ headOf line p = s .passed .heads-rest p (omega arith) m in
+        let r : rowsOf line′ bits .rooms p ≡ rows .rooms p = s .passed .rooms-rest p (omega arith) m in
         record {
           few = omega arith;
-          done = record {
-            list = rw same (s .done .list);
-            count-is = rw same (s .done .count-is);
+          list = rw same (s .list);
+          count-is = rw same (s .count-is);
+          passed = record {
+            queue-is = s .passed .queue-is;
+            tails-are = s .passed .tails-are;
+            lows-are = s .passed .lows-are;
             heads-are = λ q l. elim (ℕ-discrete q p) [
-              | yes e ↦ rw e (omega (arith, rest, ap length none))
-              | no e ↦ s .done .heads-are q (omega arith)
+              | yes e ↦ rw e (omega (arith, h))
+              | no e ↦ s .passed .heads-are q (omega arith)
             ];
-            heads-long = s .done .heads-long;
-            idle = λ q l f. elim (ℕ-discrete q p) [
-              | yes e ↦ rw e (omega (arith, over, rest))
-              | no e ↦ s .done .idle q (omega arith) f
+            rooms-are = λ q l. elim (ℕ-discrete q p) [
+              | yes e ↦ rw e (omega (arith, r))
+              | no e ↦ s .passed .rooms-are q (omega arith)
             ];
+            heads-rest = λ q l i. s .passed .heads-rest q (omega arith) i;
+            rooms-rest = λ q l i. s .passed .rooms-rest q (omega arith) i;
           };
-          heads-rest = λ q l. s .heads-rest q (omega arith);
+          long = s .long;
+          exact = λ q l. elim (ℕ-discrete q p) [
+            | yes e ↦ rw (e, h, s .passed .tails-are p m) (o ∙ sym off)
+            | no e ↦ s .exact q (omega arith)
+          ];
           bits-rest = λ q l. s .bits-rest q (omega arith);
         }
 
     -- nor have the racks up to the next whose bit is on
-    planned-to : {p : ℕ} → Planned n p rows before after count heads waiting → (q : ℕ) → p ≤ q → q ≤ n → ((k : ℕ) → p ≤ k → k < q → bitOn waiting k ≡ false)
-        → Planned n q rows before after count heads waiting
+    planned-to : {p : ℕ} → Planned p line bits log at line′ log′ count waiting → (q : ℕ) → p ≤ q → q ≤ 64 → ((k : ℕ) → p ≤ k → k < q → bitOn waiting k ≡ false)
+        → Planned q line bits log at line′ log′ count waiting
     planned-to {p} s zero l m f = let e : p ≡ 0 = omega arith in rw e at s
     planned-to {p} s (suc q) l m f = elim (decLe p q) [
       | yes i ↦ rw (← (add-one q)) (planned-skip (planned-to s q i (omega arith) (λ k a c. f k a (omega arith))) (omega arith) (f q i (omega arith)))
@@ -163,117 +187,137 @@ module _ {n : ℕ} {rows : Rows} {before : List ℕ} (b : Bounded n rows) where
     ]
 
     -- the next to be visited is reached
-    pub reached-next : {p q left : ℕ} → Planned n p rows before after count heads waiting → Ahead p (rows .waiting) left → Next (bitOn left) 0 64 q
-        → Reached n q rows before after count heads waiting left
+    pub reached-next : {p q left : ℕ} → Planned p line bits log at line′ log′ count waiting → Ahead p (getD bits 65 0) left → Next (bitOn left) 0 64 q
+        → Reached q line bits log at line′ log′ count waiting left
     reached-next {p} {q} s a o =
-        let m : p ≤ 64 = omega (arith, s .few, b .few) in
-        let i : Next (bitOn (rows .waiting)) p 64 q = ahead-next a o m in
+        let m : p ≤ 64 = s .few in
+        let i : Next (bitOn (getD bits 65 0)) p 64 q = ahead-next a o m in
         record {
-          planned = planned-to s (min q n) (omega (arith, i .up, s .few)) (omega arith) (λ k l j. s .bits-rest k l ∙ i .passed k l (omega arith));
+          planned = planned-to s q (i .up) (i .within) (λ k l j. s .bits-rest k l ∙ i .passed k l j);
           hit = λ l. s .bits-rest q (i .up) ∙ i .hit l;
-          within = o .within;
           ahead = ahead-on a o m;
         }
 
   -- the first rack that waits
-  pub reached-first : {p : ℕ} → Next (bitOn (rows .waiting)) 0 64 p → Reached n p rows before before 0 (rows .heads) (rows .waiting) (rows .waiting)
+  pub reached-first : {p : ℕ} → Next (bitOn (getD bits 65 0)) 0 64 p → Reached p line bits log at line log 0 (getD bits 65 0) (getD bits 65 0)
   reached-first o = reached-next planned-none (record { below = λ q l. absurd (omega arith); rest = λ q l. refl }) o
 
-module _ {n p : ℕ} {rows : Rows} {before after : List ℕ} {count : ℕ} {heads : List ℕ} {waiting left : ℕ} (b : Bounded n rows) (r : Reached n p rows before after count heads waiting left) where
-  -- the list is as long as it was
-  pub planned-long : length after ≡ length before
-  planned-long = ap length (r .planned .done .list) ∙ length-sets before 0 (flat (queuedPlan (min p n) rows))
+  module _ {p : ℕ} {line′ log′ : List ℕ} {count waiting left : ℕ} (r : Reached p line bits log at line′ log′ count waiting left) where
+    -- the log is as long as it was
+    pub planned-long : length log′ ≡ length log
+    planned-long = ap length (r .planned .list) ∙ length-sets log at (flat (queuedPlan p rows))
 
-  -- all racks are planned
-  pub planned-all : n ≤ p → PhasePlanned n rows before after count heads waiting
-  planned-all l = let e : min p n ≡ n = omega arith in rw e at (r .planned .done)
-
-  module _ (m : p < n) where
-    -- the racks before p are planned
-    here : Planned n p rows before after count heads waiting
-    here = let e : min p n ≡ p = omega arith in rw e at (r .planned)
-
-    -- p's queue is that of the start
-    head-is : getD heads p 0 ≡ getD (rows .heads) p 0
-    head-is = here .heads-rest p (omega arith)
-
-    -- the next to be visited lies behind it
-    pub reached-up : {q left′ : ℕ} → left′ ≡ turnedOff left p → Next (bitOn left′) 0 64 q → p < q
-    reached-up {q} {left′} i o =
-        let a : Ahead (p + 1) (rows .waiting) left′ = rw i (ahead-off (r .ahead)) in
-        omega (arith, ahead-up a o (omega (arith, b .few)))
-
-    -- its numbers are within their bounds
-    pub planned-inside : 2 * length (queuedPlan n rows) ≤ length before → Inside p rows after count heads
-    planned-inside c =
+    -- all racks are planned
+    pub planned-all : 64 ≤ p → waiting < 2 ^ 64 → PhasePlanned line bits log at line′ (set bits 65 waiting) log′ count
+    planned-all l f =
+        let e : p ≡ 64 = omega (arith, r .planned .few) in
+        let s : Planned 64 line bits log at line′ log′ count waiting = rw e at (r .planned) in
         record {
-          rack = omega (arith, b .few);
-          head = omega (arith, head-is, b .queued p m);
-          tail = b .within p m;
-          low = b .begun p m;
-          high = b .ended p m;
-          room = omega (arith, here .done .count-is, planned-long, queued-le rows n p m);
+          written = record { list = s .list; count-is = s .count-is };
+          passed = s .passed;
+          long = s .long;
+          topped = topped-beside bits waiting (b .bounded .topped) f;
+          same = beside-kept bits waiting;
+          exact = λ q m. ap (λ (w : ℕ). bitOn w q) (getD-set-same bits 65 waiting 0 (omega (arith, b .bounded .topped .long))) ∙ s .exact q m;
         }
 
-    -- its pairs are those of its queue at the start
-    pub next-pairs : served (rows .bits) (rows .queue) (getD heads p 0) (getD (rows .tails) p 0) (getD (rows .firsts) p 0) (getD (rows .ends) p 0) ≡ pairsFor rows p
-    unfolding pairsFor
-    next-pairs = rw head-is
+    -- p's rack is next
+    module _ (m : p < 64) where
+      -- its numbers are those of the start
+      head-is : headOf line′ p ≡ headOf line p
+      head-is = r .planned .passed .heads-rest p (omega arith) m
 
-    module _ {after′ : List ℕ} {made : ℕ}
-        (w : Written (served (rows .bits) (rows .queue) (getD heads p 0) (getD (rows .tails) p 0) (getD (rows .firsts) p 0) (getD (rows .ends) p 0)) after (2 * count) after′ made) where
-      -- as many are written
-      pub next-made : made ≡ length (pairsFor rows p)
-      next-made = w .count-is ∙ ap length next-pairs
+      room-is : rowsOf line′ bits .rooms p ≡ rows .rooms p
+      room-is = r .planned .passed .rooms-rest p (omega arith) m
 
-      -- no more than cards that wait
-      pub next-few : getD heads p 0 + made ≤ getD (rows .tails) p 0
-      next-few =
-          omega (arith, w .count-is, head-is, b .queued p m, served-le (rows .bits) (rows .queue) (getD heads p 0) (getD (rows .tails) p 0) (getD (rows .firsts) p 0) (getD (rows .ends) p 0) (omega (arith, head-is, b .queued p m)) (omega (arith, b .within p m, b .queue-long)))
+      sent-is : sent (rowsOf line′ bits) p ≡ sent rows p
+      unfolding sent
+      sent-is = rw (head-is, room-is, r .planned .passed .tails-are p m)
 
-      module _ {waiting′ : ℕ} (e : waiting′ ≡ pick (ltb (getD heads p 0 + made) (getD (rows .tails) p 0)) waiting (turnedOff waiting p)) where
-        -- another rack's bit stays
-        bit-kept : (q : ℕ) → (q ≡ p → ⊥) → bitOn waiting′ q ≡ bitOn waiting q
-        bit-kept q d = by-test (ltb (getD heads p 0 + made) (getD (rows .tails) p 0))
-            (λ t. rw (e, t))
-            (λ t. rw (e, t) (turned-off-other waiting p q d))
+      pairs-are : pairsFor (rowsOf line′ bits) p ≡ pairsFor rows p
+      unfolding pairsFor
+      pairs-are = rw (head-is, sent-is, r .planned .passed .queue-is, r .planned .passed .lows-are p m)
 
-        -- p's bit goes off only where no card is left in its queue
-        bit-here : bitOn waiting′ p ≡ false → getD (rows .tails) p 0 ≤ getD heads p 0 + made
-        bit-here f = by-test (ltb (getD heads p 0 + made) (getD (rows .tails) p 0))
-            (λ t. absurd (no-way (r .hit (omega (arith, b .few))) (rw (e, t) at f)))
-            (λ t. ltb-false _ _ t)
+      many : length (pairsFor rows p) ≡ sent rows p
+      many = pairs-long rows p (b .bounded .racks p m) (b .bounded .queue-long)
 
-        -- p is planned
-        planned-more : Planned n (p + 1) rows before after′ (count + made) (set heads p (getD heads p 0 + made)) waiting′
-        planned-more =
-            let s = here in
-            record {
-              few = omega arith;
-              done = record {
-                list = w .list ∙ rw (next-pairs, queued-more rows p, sets-flat-append before (queuedPlan p rows) (pairsFor rows p), s .done .list, s .done .count-is);
-                count-is = rw (queued-more rows p, length-append) (omega (arith, s .done .count-is, next-made));
-                heads-are = λ q l. elim (ℕ-discrete q p) [
-                  | yes i ↦ rw i (head-at ∙ omega (arith, head-is, next-made))
-                  | no i ↦ head-other q i ∙ s .done .heads-are q (omega arith)
+      -- it can be visited
+      pub next-visitable : Visitable (rowsOf line′ bits) p
+      next-visitable = visit-same head-is (r .planned .passed .tails-are p m) (r .planned .passed .lows-are p m) room-is refl (b .bounded .racks p m)
+
+      -- and its pairs fit the log
+      pub next-fits : at + 2 * count + 2 * sent (rowsOf line′ bits) p ≤ length log′
+      next-fits = omega (arith, r .planned .count-is, planned-long, queued-le rows 64 p m, b .fits, sent-is, many)
+
+      -- the next to be visited lies behind it
+      pub reached-up : {q left′ : ℕ} → left′ ≡ turnedOff left p → Next (bitOn left′) 0 64 q → p < q
+      reached-up {q} {left′} i o =
+          let a : Ahead (p + 1) (getD bits 65 0) left′ = rw i (ahead-off (r .ahead)) in
+          omega (arith, ahead-up a o (omega arith))
+
+      module _ {line″ log″ : List ℕ} {made : ℕ} (w : Visited line′ bits p log′ (at + 2 * count) line″ log″ made) where
+        made-is : made ≡ sent rows p
+        made-is = w .made-is ∙ sent-is
+
+        -- the line is as long
+        pub next-long : length line″ ≡ 4416
+        next-long = ap length (w .line-is) ∙ visited-long line′ (r .planned .long) p made m
+
+        -- the pairs counted are no more than the log has room for
+        pub next-count : 2 * (count + made) ≤ length log′
+        next-count = omega (arith, next-fits, w .made-is)
+
+        module _ {waiting′ : ℕ} (e : waiting′ ≡ pick (ltb (headOf line″ p) (tailOf line″ p)) waiting (turnedOff waiting p)) where
+          -- another rack's bit stays
+          bit-kept : (q : ℕ) → (q ≡ p → ⊥) → bitOn waiting′ q ≡ bitOn waiting q
+          bit-kept q d = by-test (ltb (headOf line″ p) (tailOf line″ p))
+              (λ t. rw (e, t))
+              (λ t. rw (e, t) (turned-off-other waiting p q d))
+
+          -- p's bit is on where a card is left in its queue
+          bit-here : bitOn waiting′ p ≡ ltb (headOf line″ p) (tailOf line″ p)
+          bit-here = by-test (ltb (headOf line″ p) (tailOf line″ p))
+              (λ t. rw (e, t) (r .hit m))
+              (λ t. rw (e, t) (turned-off-here waiting p))
+
+          -- p is planned
+          planned-more : Planned (p + 1) line bits log at line″ log″ (count + made) waiting′
+          planned-more =
+              let s = r .planned in
+              record {
+                few = omega arith;
+                list = w .list ∙ rw (pairs-are, queued-more rows p, flat-append (queuedPlan p rows) (pairsFor rows p), sets-append log at (flat (queuedPlan p rows)) (flat (pairsFor rows p)), length-flat (queuedPlan p rows), s .list, s .count-is);
+                count-is = rw (queued-more rows p, length-append) (omega (arith, s .count-is, made-is, many));
+                passed = rw (w .line-is) passed;
+                long = next-long;
+                exact = λ q l. elim (ℕ-discrete q p) [
+                  | yes i ↦ rw i bit-here
+                  | no i ↦ bit-kept q i ∙ s .exact q (omega arith) ∙ rw (w .line-is, visited-heads line′ (s .long) p made m q (omega arith) i, visited-tails line′ (s .long) p made m q (omega arith))
                 ];
-                heads-long = length-set heads p (getD heads p 0 + made) ∙ s .done .heads-long;
-                idle = λ q l f. elim (ℕ-discrete q p) [
-                  | yes i ↦ let g : bitOn waiting′ p ≡ false = rw i at f in rw (i, head-at) (bit-here g)
-                  | no i ↦ rw (head-other q i) (s .done .idle q (omega arith) (sym (bit-kept q i) ∙ f))
-                ];
-              };
-              heads-rest = λ q l. head-other q (λ i. omega arith) ∙ s .heads-rest q (omega arith);
-              bits-rest = λ q l. bit-kept q (λ i. omega arith) ∙ s .bits-rest q (omega arith);
-            }
-          where
-            head-at : getD (set heads p (getD heads p 0 + made)) p 0 ≡ getD heads p 0 + made
-            head-at = getD-set-same heads p (getD heads p 0 + made) 0 (omega (arith, b .few, here .done .heads-long))
+                bits-rest = λ q l. bit-kept q (λ i. omega arith) ∙ s .bits-rest q (omega arith);
+              }
+            where
+              passed : Passed (p + 1) rows (rowsOf (visited p made line′) bits)
+              passed =
+                  let s = r .planned .passed in
+                  let k = r .planned .long in
+                  record {
+                    queue-is = visited-queue line′ k p made m ∙ s .queue-is;
+                    tails-are = λ q l. visited-tails line′ k p made m q l ∙ s .tails-are q l;
+                    lows-are = λ q l. visited-lows line′ k p made m q l ∙ s .lows-are q l;
+                    heads-are = λ q l. elim (ℕ-discrete q p) [
+                      | yes i ↦ rw i (omega (arith, visited-head line′ k p made m, head-is, made-is))
+                      | no i ↦ visited-heads line′ k p made m q (omega arith) i ∙ s .heads-are q (omega arith)
+                    ];
+                    rooms-are = λ q l. elim (ℕ-discrete q p) [
+                      | yes i ↦ rw i (omega (arith, visited-room line′ k p made m, room-is, made-is))
+                      | no i ↦ visited-rooms line′ k p made m q (omega arith) i ∙ s .rooms-are q (omega arith)
+                    ];
+                    heads-rest = λ q l i. visited-heads line′ k p made m q i (λ j. omega arith) ∙ s .heads-rest q (omega arith) i;
+                    rooms-rest = λ q l i. visited-rooms line′ k p made m q i (λ j. omega arith) ∙ s .rooms-rest q (omega arith) i;
+                  }
 
-            head-other : (q : ℕ) → (q ≡ p → ⊥) → getD (set heads p (getD heads p 0 + made)) q 0 ≡ getD heads q 0
-            head-other q i = getD-set-other heads p q (getD heads p 0 + made) 0 i
-
-        -- and the next rack to be visited is reached
-        pub reached-more : {q left′ : ℕ} → left′ ≡ turnedOff left p → Next (bitOn left′) 0 64 q
-            → Reached n q rows before after′ (count + made) (set heads p (getD heads p 0 + made)) waiting′ left′
-        reached-more {q} {left′} i o = let a : Ahead (p + 1) (rows .waiting) left′ = rw i (ahead-off (r .ahead)) in reached-next b planned-more a o
+          -- and the next rack to be visited is reached
+          pub reached-more : {q left′ : ℕ} → left′ ≡ turnedOff left p → Next (bitOn left′) 0 64 q
+              → Reached q line bits log at line″ log″ (count + made) waiting′ left′
+          reached-more {q} {left′} i o = let a : Ahead (p + 1) (getD bits 65 0) left′ = rw i (ahead-off (r .ahead)) in reached-next planned-more a o

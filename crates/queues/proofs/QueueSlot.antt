@@ -1,35 +1,63 @@
 -- One slot of the pass, as the code makes it without a branch: what it needs, and what it does. Assumes nothing.
-use mathlib.Core.Path.{_≡_}
+use mathlib.Core.Path.{_≡_, sym, ap, _∙_}
 use mathlib.Core.Bool.{not}
+use mathlib.Core.Logic.{_≢_}
 use mathlib.Core.List.{List}
-use Prim.Native.Nat.{ℕ, _+_, _<_}
+use Prim.Native.Nat.{ℕ, _+_, _≤_, _<_}
+use native.Mathlib.Omega.{arith}
 use lib.Dec.{eqb}
-use lib.ListN.{getD, set}
+use lib.ListN.{length, getD, set, length-set}
+use lib.Seq.{getD-set-same, getD-set-other}
 use Rattle.counting.specs.Tests.{bit}
 use Rattle.racks.specs.Table.{dest}
 use Rattle.tables.specs.Tables.{namedSlot, target, awayBy}
 use Rattle.tables.proofs.Targets.{at-target, at-away}
-use Rattle.queues.specs.Queued.{queued, tailed, Queueable, Queued}
+use Rattle.queues.specs.Line.{queueOf, tailOf}
+use Rattle.queues.specs.Queued.{queued, Queueable}
 use Rattle.queues.proofs.Counts.{more-by}
+use Rattle.queues.proofs.Line.{queue-kept, queue-stored}
+
+-- a slot stored at the tail of rack p's queue, and the tail
+abbrev pub stored : List ℕ → ℕ → ℕ → ℕ → List ℕ
+stored line p g y = set (set line (tailOf line p) g) (4224 + p) y
+
+-- a line in which the tail of rack p's queue lies in the queues
+module _ (line : List ℕ) (p g y : ℕ) (e : length line ≡ 4416) (m : p < 64) (f : tailOf line p < 4160) where
+  pub stored-long : length (stored line p g y) ≡ 4416
+  stored-long = length-set (set line (tailOf line p) g) (4224 + p) y ∙ length-set line (tailOf line p) g ∙ e
+
+  pub stored-queue : queueOf (stored line p g y) ≡ set (queueOf line) (tailOf line p) g
+  stored-queue = queue-kept (set line (tailOf line p) g) (4224 + p) y (omega arith) ∙ queue-stored line (tailOf line p) g f
+
+  pub stored-tail : tailOf (stored line p g y) p ≡ y
+  stored-tail = getD-set-same (set line (tailOf line p) g) (4224 + p) y 0 (omega (arith, length-set line (tailOf line p) g))
+
+  pub stored-else : (k : ℕ) → 4160 ≤ k → k ≢ 4224 + p → getD (stored line p g y) k 0 ≡ getD line k 0
+  stored-else k l d =
+      getD-set-other (set line (tailOf line p) g) (4224 + p) k y 0 d
+      ∙ getD-set-other line (tailOf line p) k g 0 (λ i. omega arith)
+
+-- what slot g does, with 0 or 1 added to the tail
+pub queued-is : (racking places : List ℕ) (g : ℕ) (line : List ℕ) → Queueable racking places g line
+    → queued racking places g line ≡ stored line (target racking places g) g (tailOf line (target racking places g) + bit (awayBy racking places g))
+unfolding queued
+queued-is racking places g line q =
+    let p : ℕ = target racking places g in
+    let l : List ℕ = set line (tailOf line p) g in
+    let same : getD l (4224 + p) 0 ≡ tailOf line p = getD-set-other line (tailOf line p) (4224 + p) g 0 (λ i. omega (arith, q .fits)) in
+    sym (more-by (awayBy racking places g) (4224 + p) l) ∙ ap (λ (t : ℕ). set l (4224 + p) (t + bit (awayBy racking places g))) same
 
 -- n is the slot that slot g's entry names
-module _ (table places : List ℕ) (g n : ℕ) (en : n ≡ namedSlot g (dest places g)) where
-  -- a slot that can be queued: what the code may read and write
-  module _ (tails : List ℕ) (q : Queueable table places g tails) where
-    -- the tail of that rack's queue
-    pub slot-racked : getD table n 0 < 64
-    slot-racked = rw (at-target table places g n en) (q .racked)
+module _ (racking places : List ℕ) (g n : ℕ) (en : n ≡ namedSlot g (dest places g)) (line : List ℕ) (q : Queueable racking places g line) where
+  -- the tail of that rack's queue
+  pub slot-racked : getD racking n 0 < 64
+  slot-racked = rw (at-target racking places g n en) (q .racked)
 
-    -- the list at that tail
-    pub slot-fits : getD tails (getD table n 0) 0 < 4096
-    slot-fits = rw (at-target table places g n en) (q .fits)
+  -- the line at that tail
+  pub slot-fits : tailOf line (getD racking n 0) < 4160
+  slot-fits = rw (at-target racking places g n en) (q .fits)
 
   -- each store is made, and adds 0 where nothing is to be added
-  pub queued-slot : (queue tails : List ℕ) (x : ℕ) → x ≡ bit (not (eqb (getD table g 0) (getD table n 0)))
-      → Queued table places g queue tails (set queue (getD tails (getD table n 0) 0) g) (set tails (getD table n 0) (getD tails (getD table n 0) 0 + x))
-  unfolding queued tailed
-  queued-slot queue tails x ex =
-      record {
-        queue-is = rw (at-target table places g n en);
-        tails-are = rw (ex, at-away table places g n en, at-target table places g n en) (more-by (awayBy table places g) (target table places g) tails);
-      }
+  pub queued-slot : (x : ℕ) → x ≡ bit (not (eqb (getD racking g 0) (getD racking n 0)))
+      → stored line (getD racking n 0) g (tailOf line (getD racking n 0) + x) ≡ queued racking places g line
+  queued-slot x ex = rw (ex, at-away racking places g n en, at-target racking places g n en) (sym (queued-is racking places g line q))

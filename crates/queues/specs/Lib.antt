@@ -1,3 +1,4 @@
+pub mod Line
 pub mod Queues
 pub mod Queued
 pub mod Openings

@@ -1,79 +1,118 @@
-// The queues of arrivals: for each rack, the slots of the cards away to it, ascending, in its own stretch of one list.
+// The queues of arrivals: for each rack, the slots of the cards away to it, ascending, in its own stretch of the line.
 ghost use mathlib.Core.Path.{_≡_};
-ghost use Rattle.counting.specs.Checks.{first};
-ghost use Rattle.racks.specs.Numbers.{tableChecks};
+ghost use Prim.Native.Nat.{_+_, _≤_, _<_};
+ghost use lib.ListN.{length};
+ghost use Rattle.counting.specs.Tests.{pick};
+ghost use Rattle.counting.specs.Count.{count};
+ghost use Rattle.racks.specs.Racks.{slots};
 ghost use Rattle.racks.specs.Job.{racksOf, Sound};
-ghost use Rattle.tables.specs.Tables.{Filled};
+ghost use Rattle.tables.specs.Tables.{Open};
+ghost use Rattle.bits.specs.Bits.{turnedOn};
+ghost use Rattle.queues.specs.Line.{LINE, Blank};
 ghost use Rattle.queues.specs.Queues.{rowsOf};
-ghost use Rattle.queues.specs.Queued.{Firsts, Queueable, Queued};
+ghost use Rattle.queues.specs.Queued.{freeFrom, placed, Placed, Queueable, queued, Awaiting};
 ghost use Rattle.queues.specs.Ready.{Ready};
+use crate::parts::line;
 use crate::parts::openings;
 use racks::Job;
 
-// Each rack's first slot.
-fn first_slots(job: Job) -> [u16; 64]
-    requires { ⌜ Sound job ⌝ }
-    ensures { λ r. ⌜ Firsts (racksOf job) r ⌝ }
+// How many of the slots from `low` up to `high` are free.
+fn count_free(places: &[u16], low: usize, high: usize) -> u16
+    requires { ⌜ (low ≤ high) × (high ≤ length (now places)) × (high ≤ 4096) ⌝ }
+    ensures { λ r. ⌜ r ≡ count high (freeFrom (now (places .entry)) low) ⌝ }
 {
-    let n = job.racks;
-    let mut list = [0u16; 64];
+    let mut free: u16 = 0;
+    let mut g = low;
+    while g < high {
+        free = free + tables::parts::one_if(places[g] == Job::FREE);
+        g = g + 1;
+    }
+    free
+}
+
+// Rack p in the line, with its first slot and its free slots; its queue is empty.
+fn place_rack(line: &mut [u16; 4416], p: usize, low: u16, rooms: u16)
+    requires { ⌜ (length (now line) ≡ 4416) × (p < 64) × (low ≤ 4096) ⌝ }
+    ensures { λ _. ⌜ now (line .exit) ≡ placed p low rooms (now (line .entry)) ⌝ }
+{
+    let begins = low + p as u16;
+    line[line::HEADS + p] = begins;
+    line[line::TAILS + p] = begins;
+    line[line::ROOMS + p] = rooms;
+    line[line::LOWS + p] = low;
+}
+
+// Every rack in the line.
+fn place_racks(job: Job, places: &[u16], line: &mut [u16; 4416])
+    requires { ⌜ Sound job × (length (now places) ≡ slots (racksOf job)) × Blank LINE (now line) ⌝ }
+    ensures { λ _. ⌜ Placed (racksOf job) (now (places .entry)) (job .racks) (now (line .exit)) ⌝ }
+{
     let mut low: u16 = 0;
     let mut p: usize = 0;
-    while p < n {
-        list[p] = low;
-        low = job.ends[p];
+    while p < job.racks {
+        let high = job.ends[p];
+        let free = count_free(places, low as usize, high as usize);
+        place_rack(line, p, low, free);
+        low = high;
         p = p + 1;
     }
-    list
 }
 
 // One slot of the pass: where its card is away, the slot goes to the tail of its card's queue. The store is made whatever the slot holds,
 // since no branch on it could be foretold where free and taken slots alternate at random: where no card is away the tail stays before it.
-fn queue_slot(
-    places: &[u16],
-    table: &[u8; 4096],
-    g: usize,
-    queue: &mut [u16; 4096],
-    tails: &mut [u16; 64],
-)
-    requires { ⌜ Queueable (now table) (now places) g (now tails) ⌝ }
-    ensures { λ _. ⌜ Queued (now (table .entry)) (now (places .entry)) g (now (queue .entry)) (now (tails .entry)) (now (queue .exit)) (now (tails .exit)) ⌝ }
+fn queue_slot(places: &[u16], racking: &[u8; 4096], g: usize, line: &mut [u16; 4416])
+    requires { ⌜ Queueable (now racking) (now places) g (now line) ⌝ }
+    ensures { λ _. ⌜ now (line .exit) ≡ queued (now (racking .entry)) (now (places .entry)) g (now (line .entry)) ⌝ }
 {
-    let here = table[g] as usize;
-    let there = table[tables::parts::named_slot(places[g], g)] as usize;
-    let tail = tails[there];
-    queue[tail as usize] = g as u16;
-    tails[there] = tail + tables::parts::one_if(here != there);
+    let here = racking[g] as usize;
+    let there = racking[tables::parts::named_slot(places[g], g)] as usize;
+    let tail = line[line::TAILS + there];
+    line[tail as usize] = g as u16;
+    line[line::TAILS + there] = tail + tables::parts::one_if(here != there);
 }
 
-// The rows of a legal table: every rack's cards wait in its queue, its free slots are in the set, and no rack is known to wait for none.
+// A word with bit p on where something is so.
+fn turn_if(word: u64, p: usize, so: bool) -> u64
+    requires { ⌜ p < 64 ⌝ }
+    ensures { λ r. ⌜ r ≡ pick so (turnedOn word p) word ⌝ }
+{
+    if so {
+        return bits::parts::turn_on(word, p);
+    }
+    word
+}
+
+// The racks that wait: a bit is on where a card is in the rack's queue.
+fn find_waiting(n: usize, line: &[u16; 4416]) -> u64
+    requires { ⌜ n ≤ 64 ⌝ }
+    ensures { λ r. ⌜ Awaiting n (now (line .entry)) r ⌝ }
+{
+    let mut word: u64 = 0;
+    let mut p: usize = 0;
+    while p < n {
+        word = turn_if(word, p, line[line::HEADS + p] < line[line::TAILS + p]);
+        p = p + 1;
+    }
+    word
+}
+
+// The rows of a legal table: every rack's cards wait in its queue, its free slots are in the set and counted, and the racks that wait are known.
 pub fn queue_up(
     job: Job,
     places: &[u16],
-    table: &[u8; 4096],
-    queue: &mut [u16; 4096],
-    heads: &mut [u16; 64],
-    tails: &mut [u16; 64],
-    firsts: &mut [u16; 64],
-    ends: &mut [u16; 64],
-    bits: &mut [u64; 65],
-    waiting: &mut u64,
+    racking: &[u8; 4096],
+    line: &mut [u16; 4416],
+    bits: &mut [u64; 66],
 )
-    requires { ⌜ Sound job × Filled (racksOf job) (now table) × (first (tableChecks (racksOf job) (now places)) ≡ 0) ⌝ }
-    ensures { λ _. ⌜ Ready (racksOf job) (now (places .entry)) (rowsOf (now (queue .exit)) (now (heads .exit)) (now (tails .exit)) (now (firsts .exit)) (now (ends .exit)) (now (bits .exit)) (now (waiting .exit))) ⌝ }
+    requires { ⌜ Open job (now places) (now racking) × Blank LINE (now line) × Blank 66 (now bits) ⌝ }
+    ensures { λ _. ⌜ Ready (racksOf job) (now (places .entry)) (rowsOf (now (line .exit)) (now (bits .exit))) ⌝ }
 {
-    let first = first_slots(job);
-    let last = job.ends;
-    *queue = [0; 4096];
-    *heads = first;
-    *tails = first;
-    *firsts = first;
-    *ends = last;
-    *waiting = u64::MAX;
+    place_racks(job, places, line);
     openings::find_free(places, bits);
     let mut g: usize = 0;
     while g < job.slots {
-        queue_slot(places, table, g, queue, tails);
+        queue_slot(places, racking, g, line);
         g = g + 1;
     }
+    bits[65] = find_waiting(job.racks, line);
 }

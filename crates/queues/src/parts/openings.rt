@@ -1,6 +1,7 @@
 // The free slots of a table as a set of bits, found word by word.
 ghost use Prim.Native.Nat.{_+_, _≤_};
 ghost use lib.ListN.{length};
+ghost use Rattle.queues.specs.Line.{Blank};
 ghost use Rattle.queues.specs.Openings.{Word, Opened};
 use crate::parts::planning;
 use racks::Job;
@@ -21,12 +22,11 @@ fn free_word(places: &[u16], low: usize, high: usize) -> u64
 }
 
 // The set of the free slots of a table.
-pub fn find_free(places: &[u16], bits: &mut [u64; 65])
-    requires { ⌜ length (now places) ≤ 4096 ⌝ }
+pub fn find_free(places: &[u16], bits: &mut [u64; 66])
+    requires { ⌜ (length (now places) ≤ 4096) × Blank 66 (now bits) ⌝ }
     ensures { λ _. ⌜ Opened (now (places .entry)) (now (bits .exit)) ⌝ }
 {
     let slots = places.len();
-    *bits = [0; 65];
     let mut w: usize = 0;
     while w * 64 < slots {
         let low = w * 64;

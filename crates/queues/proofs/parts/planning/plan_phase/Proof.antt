@@ -1,138 +1,98 @@
--- `queues::parts::planning::plan_phase` meets its contract. Assumes nothing.
 use native.Mathlib.Omega.{arith}
-use Prim.Native.Nat.{_+_, _-_, _^_, _≤_, _<_}
-use lib.ListN.{length, getD}
-use Rattle.queues.specs.Queues.{rowsOf}
-use Rattle.queues.proofs.Planning.{Reached, Inside, reached-first, planned-long, planned-all, planned-inside, next-pairs, next-few, next-made, reached-up, reached-more}
+use borrow.Author.Needs.{needs}
+use Prim.Native.Nat.{_+_, _*_, _-_, _^_, _≤_, _<_}
+use lib.ListN.{length}
+use Rattle.queues.specs.Queues.{rowsOf, sent}
+use Rattle.queues.proofs.Planning.{Reached, reached-first, planned-long, planned-all, next-visitable, next-fits, next-count, reached-up, reached-more}
 use Rattle.queues.proofs.parts.planning.plan_phase.Statement.{statement}
 use Rattle.queues.proofs.parts.planning.plan_phase.Tie as tie
 
 abbrev Inv-loop : tie.InvT-loop
-Inv-loop n queue heads₀ tails firsts ends bits waiting₀ pairs₀ count₀ left₀ p₀ heads waiting pairs count left p =
-    Reached n p (rowsOf queue heads₀ tails firsts ends bits waiting₀) pairs₀ pairs count heads waiting left
+Inv-loop line₀ bits log₀ at count₀ waiting₀ left₀ p₀ line log count waiting left p = (waiting < 2 ^ 64) × Reached p line₀ bits log₀ at line log count waiting left
 
 abbrev μ-loop : tie.MeasureT-loop
-μ-loop n queue heads₀ tails firsts ends bits waiting₀ pairs₀ count₀ left₀ p₀ heads waiting pairs count left p = n - p
+μ-loop line₀ bits log₀ at count₀ waiting₀ left₀ p₀ line log count waiting left p = 64 - p
 
--- the next rack's numbers are within their bounds
-rack : (c : tie.In-loop Inv-loop μ-loop) →
+-- the next rack's pairs fit the log, whose length is a number of 64 bits
+room : (c : tie.In-loop Inv-loop μ-loop) →
     let l = c .before .loop in
-    let a = c .before .before .before .before .before .args in
-    Inside (l .p) (rowsOf (a .queue .now) (a .heads .now) (a .tails .now) (a .firsts .now) (a .ends .now) (a .bits .now) (a .waiting .now)) (l .pairs) (l .count) (l .heads)
-rack c = let s = c .before .before .before .before .before in planned-inside (s .pre .0) (c .before .loop .inv) (omega arith) (s .pre .1)
+    let s = c .before .before .before .before .before in
+    (s .args .at + 2 * l .count + 2 * sent (rowsOf (l .line) (s .args .bits .now)) (l .p) ≤ length (l .log)) × (length (l .log) < 2 ^ 64)
+room c =
+    let l = c .before .loop in
+    let s = c .before .before .before .before .before in
+    (next-fits (s .pre) (l .inv .1) (omega arith), omega (arith, planned-long (s .pre) (l .inv .1)))
 
--- the list's length is a number of 64 bits
-fits : (c : tie.In-loop Inv-loop μ-loop) → length (c .before .loop .pairs) < 2 ^ 64
-fits c = let s = c .before .before .before .before .before in omega (arith, planned-long (s .pre .0) (c .before .loop .inv))
-
--- what the next rack's queue and the count grow to fits
-grown : (c : tie.After-slice-known2 Inv-loop μ-loop) →
-    let l = c .before .before .before .before .before .before .before .before .before .loop in
-    let made = c .before .before .plan-rack .result in
-    (getD (l .heads) (l .p) 0 + made ≤ 4096) × (l .count + made < 2 ^ 64)
-grown c =
-    let i = c .before .before .before .before .before .before .before .before in
-    let s = c .before .before .before .before .before .before .before .before .before .before .before .before .before in
-    let w = c .before .before .plan-rack .ensures in
-    let r = rack i in (
-      omega (arith, next-few (s .pre .0) (i .before .loop .inv) (omega arith) w),
-      omega (arith, fits i, next-made (s .pre .0) (i .before .loop .inv) (omega arith) w),
-    )
+element-copy-out-waiting : tie.Need-element-copy-out-waiting Inv-loop μ-loop
+element-copy-out-waiting c = search needs
 
 next-on-requires : tie.Need-next-on-requires Inv-loop μ-loop
 next-on-requires c κs = omega arith
 
 loop-holds : tie.Need-loop-holds Inv-loop μ-loop
-loop-holds c = let s = c .before .before .before in reached-first (s .pre .0) (c .next-on .ensures)
+loop-holds c = let s = c .before .before .before in (s .pre .bounded .topped .small 65, reached-first (s .pre) (c .next-on .ensures))
 
-mul-head : tie.Need-mul-head Inv-loop μ-loop
-mul-head c = let r = rack c in omega arith
+mul-visit : tie.Need-mul-visit Inv-loop μ-loop
+mul-visit c = omega (arith, room (c .before .before .before))
 
-element-copy-out-head : tie.Need-element-copy-out-head Inv-loop μ-loop
-element-copy-out-head c = let r = rack c in omega arith
+add-visit : tie.Need-add-visit Inv-loop μ-loop
+add-visit c = omega (arith, room (c .before .before .before))
 
-cast-head : tie.Need-cast-head Inv-loop μ-loop
-cast-head c = let r = rack (c .before) in omega arith
-
-mul-tail : tie.Need-mul-tail Inv-loop μ-loop
-mul-tail c = let r = rack (c .before) in omega arith
-
-element-copy-out-tail : tie.Need-element-copy-out-tail Inv-loop μ-loop
-element-copy-out-tail c = let r = rack (c .before) in omega arith
-
-cast-tail : tie.Need-cast-tail Inv-loop μ-loop
-cast-tail c = let r = rack (c .before .before) in omega arith
-
-mul-plan-rack : tie.Need-mul-plan-rack Inv-loop μ-loop
-mul-plan-rack c = let r = rack (c .before .before) in omega arith
-
-element-copy-out-plan-rack : tie.Need-element-copy-out-plan-rack Inv-loop μ-loop
-element-copy-out-plan-rack c = let r = rack (c .before .before) in omega arith
-
-cast-plan-rack : tie.Need-cast-plan-rack Inv-loop μ-loop
-cast-plan-rack c = let r = rack (c .before .before .before) in omega arith
-
-mul-plan-rack-2 : tie.Need-mul-plan-rack-2 Inv-loop μ-loop
-mul-plan-rack-2 c = let r = rack (c .before .before .before) in omega arith
-
-element-copy-out-plan-rack-2 : tie.Need-element-copy-out-plan-rack-2 Inv-loop μ-loop
-element-copy-out-plan-rack-2 c = let r = rack (c .before .before .before) in omega arith
-
-cast-plan-rack-2 : tie.Need-cast-plan-rack-2 Inv-loop μ-loop
-cast-plan-rack-2 c = let r = rack (c .before .before .before .before) in omega arith
-
-mul-plan-rack-3 : tie.Need-mul-plan-rack-3 Inv-loop μ-loop
-mul-plan-rack-3 c = let r = rack (c .before .before .before .before .before) in omega (arith, fits (c .before .before .before .before .before))
-
-plan-rack-requires : tie.Need-plan-rack-requires Inv-loop μ-loop
-plan-rack-requires c κs =
-    let i = c .before .before .before .before .before in
-    let s = c .before .before .before .before .before .before .before .before .before .before in
-    let r = rack i in
-    ((r .head, r .tail, s .pre .0 .queue-long, r .low, r .high, s .pre .0 .topped), rw (next-pairs (s .pre .0) (i .before .loop .inv) (omega arith)) (r .room))
-
-add-heads : tie.Need-add-heads Inv-loop μ-loop
-add-heads c = let g = grown c in omega arith
-
-cast-heads : tie.Need-cast-heads Inv-loop μ-loop
-cast-heads c = let g = grown c in omega arith
-
-mul-heads : tie.Need-mul-heads Inv-loop μ-loop
-mul-heads c = let r = rack (c .before .before .before .before .before .before .before .before) in omega arith
-
-element-write-heads : tie.Need-element-write-heads Inv-loop μ-loop
-element-write-heads c = let r = rack (c .before .before .before .before .before .before .before .before) in omega arith
+visit-requires : tie.Need-visit-requires Inv-loop μ-loop
+visit-requires c κs = let l = c .before .before .before .before .loop in
+    let s = c .before .before .before .before .before .before .before .before in
+    (l .inv .1 .planned .long, omega arith, s .pre .bounded .topped, next-visitable (s .pre) (l .inv .1) (omega arith), next-fits (s .pre) (l .inv .1) (omega arith))
 
 add-stop-waiting : tie.Need-add-stop-waiting Inv-loop μ-loop
-add-stop-waiting c = let g = grown (c .before) in omega arith
+add-stop-waiting c = omega arith
+
+mul-stop-waiting : tie.Need-mul-stop-waiting Inv-loop μ-loop
+mul-stop-waiting c = omega arith
+
+element-copy-out-stop-waiting : tie.Need-element-copy-out-stop-waiting Inv-loop μ-loop
+element-copy-out-stop-waiting c = omega arith
+
+add-stop-waiting-2 : tie.Need-add-stop-waiting-2 Inv-loop μ-loop
+add-stop-waiting-2 c = omega arith
+
+mul-stop-waiting-2 : tie.Need-mul-stop-waiting-2 Inv-loop μ-loop
+mul-stop-waiting-2 c = omega arith
+
+element-copy-out-stop-waiting-2 : tie.Need-element-copy-out-stop-waiting-2 Inv-loop μ-loop
+element-copy-out-stop-waiting-2 c = omega arith
 
 stop-waiting-requires : tie.Need-stop-waiting-requires Inv-loop μ-loop
-stop-waiting-requires c κs = let r = rack (c .before .before .before .before .before .before .before .before .before) in omega (arith, r .rack)
+stop-waiting-requires c κs = omega arith
 
 turn-off-requires : tie.Need-turn-off-requires Inv-loop μ-loop
-turn-off-requires c κs = let r = rack (c .before .before .before .before .before .before .before .before .before .before) in omega (arith, r .rack)
+turn-off-requires c κs = omega arith
 
 add-count : tie.Need-add-count Inv-loop μ-loop
-add-count c = let g = grown (c .before .before .before) in omega arith
+add-count c = let l = c .before .before .before .before .before .before .before .before .before .before .before .loop in
+    let s = c .before .before .before .before .before .before .before .before .before .before .before .before .before .before .before in
+    omega (arith, next-count (s .pre) (l .inv .1) (omega arith) (c .before .before .before .before .before .before .visit .ensures), planned-long (s .pre) (l .inv .1))
 
 next-on-requires-2 : tie.Need-next-on-requires-2 Inv-loop μ-loop
 next-on-requires-2 c κs = omega arith
 
 loop-less : tie.Need-loop-less Inv-loop μ-loop
-loop-less c =
-    let s = c .before .before .before .before .before .before .before .before .before .before .before .before .before .before .before .before .before in
-    omega (arith, reached-up (s .pre .0) (c .before .before .before .before .before .before .before .before .before .before .before .before .before .loop .inv) (omega arith) (c .before .turn-off .ensures) (c .next-on2 .ensures))
+loop-less c = let l = c .before .before .before .before .before .before .before .before .before .before .before .before .loop in
+    let s = c .before .before .before .before .before .before .before .before .before .before .before .before .before .before .before .before in
+    omega (arith, reached-up (s .pre) (l .inv .1) (omega arith) (c .before .turn-off .ensures) (c .next-on2 .ensures))
 
 loop-again : tie.Need-loop-again Inv-loop μ-loop
-loop-again c =
-    let s = c .before .before .before .before .before .before .before .before .before .before .before .before .before .before .before .before .before in
-    reached-more (s .pre .0) (c .before .before .before .before .before .before .before .before .before .before .before .before .before .loop .inv) (omega arith) (c .before .before .before .before .before .before .plan-rack .ensures) (c .before .before .stop-waiting .ensures) (c .before .turn-off .ensures) (c .next-on2 .ensures)
+loop-again c = let l = c .before .before .before .before .before .before .before .before .before .before .before .before .loop in
+    let s = c .before .before .before .before .before .before .before .before .before .before .before .before .before .before .before .before in
+    (omega arith, reached-more (s .pre) (l .inv .1) (omega arith) (c .before .before .before .before .before .before .before .visit .ensures) (c .before .before .stop-waiting .ensures) (c .before .turn-off .ensures) (c .next-on2 .ensures))
+
+element-write-bits : tie.Need-element-write-bits Inv-loop μ-loop
+element-write-bits c = search needs
 
 same-length : tie.Need-same-length Inv-loop μ-loop
-same-length c = let s = c .before .before .before .before .before in planned-long (s .pre .0) (c .before .loop .inv)
+same-length c = let s = c .before .before .before .before .before in planned-long (s .pre) (c .before .loop .inv .1)
 
 returns : tie.Need-returns Inv-loop μ-loop
-returns c = let s = c .before .before .before .before .before in planned-all (s .pre .0) (c .before .loop .inv) (omega arith)
+returns c = let s = c .before .before .before .before .before in planned-all (s .pre) (c .before .loop .inv .1) (omega arith) (c .before .loop .inv .0)
 
 pub plan-phase-spec : {M : Type 1} → statement M
 plan-phase-spec =
@@ -140,32 +100,24 @@ plan-phase-spec =
     (tie.spec
     Inv-loop
     μ-loop
+    element-copy-out-waiting
     next-on-requires
     loop-holds
-    mul-head
-    element-copy-out-head
-    cast-head
-    mul-tail
-    element-copy-out-tail
-    cast-tail
-    mul-plan-rack
-    element-copy-out-plan-rack
-    cast-plan-rack
-    mul-plan-rack-2
-    element-copy-out-plan-rack-2
-    cast-plan-rack-2
-    mul-plan-rack-3
-    plan-rack-requires
-    add-heads
-    cast-heads
-    mul-heads
-    element-write-heads
+    mul-visit
+    add-visit
+    visit-requires
     add-stop-waiting
+    mul-stop-waiting
+    element-copy-out-stop-waiting
+    add-stop-waiting-2
+    mul-stop-waiting-2
+    element-copy-out-stop-waiting-2
     stop-waiting-requires
     turn-off-requires
     add-count
     next-on-requires-2
     loop-less
     loop-again
+    element-write-bits
     same-length
     returns)

@@ -9,7 +9,7 @@ turn-off-requires : tie.Need-turn-off-requires
 turn-off-requires c κs = search needs
 
 returns-2 : tie.Need-returns-2
-returns-2 c = rw (c .before .before .if1 .left) (c .turn-off .ensures)
+returns-2 c = rw (c .before .if1 .left) (c .turn-off .ensures)
 
 pub stop-waiting-spec : {M : Type 1} → statement M
 stop-waiting-spec = tie.close (tie.spec returns turn-off-requires returns-2)
