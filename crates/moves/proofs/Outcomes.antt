@@ -1,13 +1,12 @@
 -- The outcomes of calls that are lent the cards, refused and done, and the number of a move. Assumes nothing.
 use mathlib.Core.Path.{_≡_, ap, sym, _∙_}
-use mathlib.Core.Bool.{not}
 use mathlib.Core.List.{List, [], _∷_, _++_}
 use Prim.Native.Nat.{ℕ, _*_}
 use native.Mathlib.Omega.{arith}
-use borrow.Author.Tests.{eq-eqb, ne-eqb}
+use borrow.Author.Tests.{ne-eqb}
 use Rattle.counting.specs.Lists.{Pair}
 use Rattle.counting.specs.Checks.{Check, first, refusal}
-use Rattle.counting.proofs.Checks.{first-here, first-later, refusal-none}
+use Rattle.counting.proofs.Checks.{refusal-here, refusal-past, refusal-none}
 use Rattle.answers.specs.Answers.{movesOf, answer, noCounts}
 use Rattle.answers.specs.declared.Tally.{Tally}
 use Rattle.answers.specs.declared.Answer.{Answer}
@@ -21,13 +20,15 @@ use Rattle.moves.specs.Moves.{Held, carried, outcome, endChecks, moveChe
 use Rattle.moves.specs.Parts.{outcomeOf, moveNumber, movedBy, MoveChecked}
 use Rattle.moves.proofs.Ends.{ends-allowed}
 
--- refused: the number, no counts, and all as it was lent
-pub outcome-refused : (n : ℕ) (t : Tally) (new h : Held) → (n ≡ 0 → ⊥) → outcomeOf (answer n noCounts) (h .places) (h .cards) ≡ outcome n t new h
-outcome-refused n t new h f = rw (ne-eqb n 0 f)
+-- a call that is lent the cards gives number m
+module _ (m : ℕ) (t : Tally) (new h : Held) where
+  -- refused: the number, no counts, and all as it was lent
+  pub outcome-refused : (n : ℕ) (r : Answer) → r ≡ answer n noCounts → n ≡ m → (n ≡ 0 → ⊥) → outcomeOf r (h .places) (h .cards) ≡ outcome m t new h
+  outcome-refused n r er e f = rw (er, ← e, ne-eqb n 0 f)
 
--- done: the counts, and the new table and cards
-pub outcome-done : (n : ℕ) (t : Tally) (new h : Held) → n ≡ 0 → outcomeOf (answer 0 t) (new .places) (new .cards) ≡ outcome n t new h
-outcome-done n t new h e = rw e
+  -- done: the counts, and the new table and cards
+  pub outcome-done : (r : Answer) (s : Tally) (h′ : Held) → r ≡ answer 0 s → s ≡ t → h′ ≡ new → m ≡ 0 → outcomeOf r (h′ .places) (h′ .cards) ≡ outcome m t new h
+  outcome-done r s h′ er es eh e = rw (er, es, eh, e)
 
 -- a job made from capacities
 module _ (caps : List ℕ) (job : Job) (is : job ≡ jobOf (ofCaps caps)) where
@@ -65,7 +66,7 @@ module _ (job : Job) (b : ℕ) (h : Held) (m : Pair) (n : ℕ) where
   unfolding moveNumber
   move-refused e f =
       record {
-        number-is = e ∙ sym (first-here _ _ _ (ap not (ne-eqb (cardsNumber job b (h .places) (h .cards)) 0 (λ z. f (e ∙ z)))));
+        number-is = e ∙ sym (refusal-here (cardsNumber job b (h .places) (h .cards)) _ (λ z. f (e ∙ z)));
         sized = λ z. absurd (f z);
         slots = λ z. absurd (f z);
       }
@@ -76,19 +77,9 @@ module _ (job : Job) (b : ℕ) (h : Held) (m : Pair) (n : ℕ) where
   unfolding moveNumber
   move-ends z racking o e =
       record {
-        number-is = e ∙ sym (first-later _ _ _ (ap not (eq-eqb (cardsNumber job b (h .places) (h .cards)) 0 z)));
+        number-is = e ∙ sym (refusal-past (cardsNumber job b (h .places) (h .cards)) _ z);
         sized = λ q. ap (λ (k : ℕ). k * b) (o .table .legal .long) ∙ sym (o .long);
         slots = λ q.
             let a = ends-allowed (racksOf job) (h .places) m (sym e ∙ q) in
             record { from-lt = omega (arith, a .from-lt, o .table .legal .long); to-lt = omega (arith, a .to-lt, o .table .legal .long) };
       }
-
--- one move, refused and made
-module _ (job : Job) (b : ℕ) (h : Held) (m : Pair) where
-  pub moved-refused : (n : ℕ) (r : Answer) → r ≡ answer n noCounts → n ≡ moveNumber job b h m → (n ≡ 0 → ⊥) → outcomeOf r (h .places) (h .cards) ≡ movedBy job b h m
-  unfolding movedBy
-  moved-refused n r er en f = rw (er, ← en) (outcome-refused n _ _ h f)
-
-  pub moved-done : (n : ℕ) (r : Answer) (new : Held) → r ≡ answer 0 (movesOf 1) → new ≡ carried b (m ∷ []) h → n ≡ moveNumber job b h m → n ≡ 0 → outcomeOf r (new .places) (new .cards) ≡ movedBy job b h m
-  unfolding movedBy
-  moved-done n r new er eh en z = rw (er, eh, ← en) (outcome-done n _ (carried b (m ∷ []) h) h z)

@@ -1,6 +1,5 @@
 -- Each case of the slot question. Assumes nothing.
 use mathlib.Core.Path.{_≡_, ap, sym, _∙_}
-use mathlib.Core.Bool.{not}
 use mathlib.Core.List.{List, [], _∷_}
 use Prim.Native.Nat.{ℕ, _≤_, _<_}
 use native.Mathlib.Omega.{arith}
@@ -8,7 +7,7 @@ use lib.ListN.{length}
 use borrow.Author.Tests.{eq-eqb, ne-eqb, le-leb, lt-leb}
 use Rattle.counting.specs.Tests.{_and_}
 use Rattle.counting.specs.Checks.{first, refusal}
-use Rattle.counting.proofs.Checks.{first-here, first-later, first-none, refusal-none}
+use Rattle.counting.proofs.Checks.{first-here, first-later, first-none, refusal-here, refusal-past, refusal-none}
 use Rattle.racks.specs.Limits.{FREE}
 use Rattle.racks.specs.Racks.{Rack, ofCaps, slots, rackOf}
 use Rattle.racks.specs.Table.{dest, free, settled, rackTo, onRack, away}
@@ -65,11 +64,11 @@ module _ (job : Job) (places : List ℕ) (g : ℕ) where
   -- refused by the table
   pub asked-refused : (n : ℕ) → n ≡ tableNumber job places → (n ≡ 0 → ⊥) → refusedSlot n ≡ askedBy job places g
   asked-refused n e f =
-      said-refused (racksOf job) places g n f ∙ by-number n (e ∙ sym (first-here _ (tableNumber job places) _ (ap not (ne-eqb (tableNumber job places) 0 (λ z. f (e ∙ z))))))
+      said-refused (racksOf job) places g n f ∙ by-number n (e ∙ sym (refusal-here (tableNumber job places) _ (λ z. f (e ∙ z))))
 
   module _ (z : tableNumber job places ≡ 0) (long : length places ≡ slots (racksOf job)) where
     past : first (refusal (tableNumber job places) ∷ (noSlot (racksOf job) g, 7) ∷ []) ≡ first ((noSlot (racksOf job) g, 7) ∷ [])
-    past = first-later _ (tableNumber job places) _ (ap not (eq-eqb (tableNumber job places) 0 z))
+    past = refusal-past (tableNumber job places) _ z
 
     -- there is no such slot
     pub asked-past : length places ≤ g → refusedSlot 7 ≡ askedBy job places g

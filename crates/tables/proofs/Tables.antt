@@ -12,8 +12,8 @@ use lib.Seq.{sets}
 use borrow.Author.Tests.{eq-eqb, ne-eqb, lt-ltb, le-ltb}
 use Rattle.counting.specs.Tests.{_or_, pick}
 use Rattle.counting.specs.Checks.{Check, first, refusal, done}
-use Rattle.counting.proofs.Tests.{or-l, or-r, or-none, or-false, no-way}
-use Rattle.counting.proofs.Checks.{Marked, first-here, first-later, first-off, first-join, first-refusal, refusal-none}
+use Rattle.counting.proofs.Tests.{or-l, or-r, or-none, or-false}
+use Rattle.counting.proofs.Checks.{Marked, first-here, first-later, first-off, first-join, first-refusal, refusal-here, refusal-past, refusal-none}
 use Rattle.counting.proofs.Checks.Marked.{more, none}
 use Rattle.answers.specs.Answers.{answer, noCounts, listed}
 use Rattle.answers.specs.declared.Tally.{Tally}
@@ -32,11 +32,11 @@ module _ (job : Job) (places : List ℕ) where
   -- past what the racks are refused with
   past : job .refused ≡ 0 → tableNumber job places ≡ first (placesChecks (racksOf job) places)
   unfolding tableNumber
-  past z = first-later _ (job .refused) _ (ap not (eq-eqb (job .refused) 0 z))
+  past = refusal-past (job .refused) (placesChecks (racksOf job) places)
 
   pub by-refused : (job .refused ≡ 0 → ⊥) → job .refused ≡ tableNumber job places
   unfolding tableNumber
-  by-refused f = sym (first-here _ (job .refused) _ (ap not (ne-eqb (job .refused) 0 f)))
+  by-refused f = sym (refusal-here (job .refused) (placesChecks (racksOf job) places) f)
 
   module _ (s : Sound job) where
     pub by-4 : (length places ≡ job .slots → ⊥) → 4 ≡ tableNumber job places
@@ -77,13 +77,13 @@ module _ (job : Job) (b : ℕ) (places cards : List ℕ) where
     pub cards-3 : badBytes b ≡ false → (job .refused ≡ 0 → ⊥) → job .refused ≡ cardsNumber job b places cards
     unfolding cardsNumber
     cards-3 h f =
-        sym (first-later _ 1 _ (ne-eqb (job .refused) 1 n) ∙ first-later _ 2 _ h ∙ first-here _ (job .refused) _ (ap not (ne-eqb (job .refused) 0 f)))
+        sym (first-later _ 1 _ (ne-eqb (job .refused) 1 n) ∙ first-later _ 2 _ h ∙ refusal-here (job .refused) _ f)
 
   -- past what the racks and B are refused with
   past-3 : job .refused ≡ 0 → badBytes b ≡ false → cardsNumber job b places cards ≡ first ((badPlaces (racksOf job) places or badCards (racksOf job) b cards, 4) ∷ entryChecks (racksOf job) places)
   unfolding cardsNumber
   past-3 z h =
-      first-later _ 1 _ (ne-eqb (job .refused) 1 (λ e. omega arith)) ∙ first-later _ 2 _ h ∙ first-later _ (job .refused) _ (ap not (eq-eqb (job .refused) 0 z))
+      first-later _ 1 _ (ne-eqb (job .refused) 1 (λ e. omega arith)) ∙ first-later _ 2 _ h ∙ refusal-past (job .refused) _ z
 
   module _ (s : Sound job) (h : badBytes b ≡ false) where
     pub cards-4 : (length cards ≡ job .slots * b → ⊥) → 4 ≡ cardsNumber job b places cards
@@ -108,13 +108,10 @@ module _ (job : Job) (b : ℕ) (places cards : List ℕ) where
   -- a table with cards that is not refused is of racks that are not
   pub cards-racks : cardsNumber job b places cards ≡ 0 → job .refused ≡ 0
   unfolding cardsNumber
-  cards-racks z = elim (ℕ-discrete (job .refused) 0) [
-    | yes e ↦ e
-    | no f ↦
-        let a = first-off (eqb (job .refused) 1) 1 _ (λ e. omega arith) z in
-        let c = first-off (badBytes b) 2 _ (λ e. omega arith) (a .1) in
-        absurd (no-way (ap not (ne-eqb (job .refused) 0 f)) (first-off (not (eqb (job .refused) 0)) (job .refused) _ f (c .1) .0))
-  ]
+  cards-racks z =
+      let a = first-off (eqb (job .refused) 1) 1 _ (λ e. omega arith) z in
+      let c = first-off (badBytes b) 2 _ (λ e. omega arith) (a .1) in
+      refusal-none (job .refused) _ (c .1)
 
 -- B, by the code's tests
 pub bytes-none : (b : ℕ) → b ≡ 0 → badBytes b ≡ true

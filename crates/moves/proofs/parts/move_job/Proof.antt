@@ -1,5 +1,6 @@
-use Rattle.moves.specs.Parts.{held}
-use Rattle.moves.proofs.Outcomes.{moved-refused, moved-done}
+use mathlib.Core.Path.{refl, sym, _∙_}
+use Rattle.moves.specs.Parts.{held, movedBy}
+use Rattle.moves.proofs.Outcomes.{outcome-refused, outcome-done}
 use borrow.Author.Needs.{needs}
 use Rattle.moves.proofs.parts.move_job.Statement.{statement}
 use Rattle.moves.proofs.parts.move_job.Tie as tie
@@ -17,9 +18,10 @@ same-length-2 : tie.Need-same-length-2
 same-length-2 c = search needs
 
 returns : tie.Need-returns
+unfolding movedBy
 returns c =
     let s = c .before .before .before .before .before .before .before .args in
-    moved-refused (s .job) (s .b) (held (s .places .now) (s .cards .now)) (s .from, s .to) _ _ (c .of .ensures) (c .before .before .move-number .ensures .number-is) (c .before .if1 .taken)
+    outcome-refused _ _ _ (held (s .places .now) (s .cards .now)) _ _ (c .of .ensures) (c .before .before .move-number .ensures .number-is) (c .before .if1 .taken)
 
 move-card-requires : tie.Need-move-card-requires
 move-card-requires c κs =
@@ -37,11 +39,10 @@ same-length-4 : tie.Need-same-length-4
 same-length-4 c = search needs
 
 returns-2 : tie.Need-returns-2
+unfolding movedBy
 returns-2 c =
     let e = c .before .before .before .before .before .before .before .before in
-    let s = e .before .before .before .before .before .before .args in
-    moved-done (s .job) (s .b) (held (s .places .now) (s .cards .now)) (s .from, s .to) _ _ (held _ _) (c .one-made .ensures)
-    (c .before .before .before .before .before .move-card .ensures) (e .before .move-number .ensures .number-is) (e .if1 .left)
+    outcome-done _ _ _ _ _ _ (held _ _) (c .one-made .ensures) refl (c .before .before .before .before .before .move-card .ensures) (sym (e .before .move-number .ensures .number-is) ∙ e .if1 .left)
 
 pub move-job-spec : {M : Type 1} → statement M
 move-job-spec =
