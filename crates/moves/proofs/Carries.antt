@@ -1,10 +1,15 @@
 -- Laws of carrying: one card moved, and the moves of a list, one after another. Assumes nothing.
-use mathlib.Core.Path.{_≡_}
+use mathlib.Core.Path.{_≡_, ap}
 use mathlib.Core.List.{List, [], _∷_}
-use Prim.Native.Nat.{ℕ, _+_, _≤_, _<_}
+use Prim.Native.Nat.{ℕ, _+_, _-_, _≤_, _<_}
+use native.Mathlib.Nat.{add-zero}
+use native.Mathlib.Omega.{arith}
 use lib.ListN.{length, getD, set}
+use Rattle.counting.specs.Lists.{Pair}
 use Rattle.racks.specs.Limits.{FREE}
 use Rattle.racks.specs.Table.{dest}
+use Rattle.answers.specs.Answers.{plusMove, plusMoves}
+use Rattle.answers.specs.declared.Tally.{Tally}
 use Rattle.moves.specs.Blocks.{block, putBlock, blank}
 use Rattle.moves.specs.Moves.{movedPlaces, movedCards, carriedPlaces, carriedCards, Held, carried}
 use Rattle.moves.specs.Parts.{pairsIn, held}
@@ -27,3 +32,23 @@ module _ (list : List ℕ) (i high : ℕ) (fits : high ≤ length list) where
   pub carry-done : (b : ℕ) (h end : Held) → high < i + 2 → carried b (pairsIn list i high) h ≡ end → h ≡ end
   unfolding carriedPlaces carriedCards
   carry-done b h end l rest = rw (pairs-none list i high fits l) at rest
+
+-- the tally has room for the moves left, and with them is what it is with all
+pub record Tallying (list : List ℕ) (i high : ℕ) (t end : Tally) : Type 0 where
+  pub room : t .moves + high < 18446744073709551615 + i
+  pub ends : plusMoves (length (pairsIn list i high)) t ≡ end
+
+module _ (list : List ℕ) (i high : ℕ) (fits : high ≤ length list) {t end : Tally} (s : Tallying list i high t end) where
+  -- one move more is counted
+  pub tallying-more : (t′ : Tally) → i + 2 ≤ high → t′ ≡ plusMove t → Tallying list (i + 2) high t′ end
+  tallying-more t′ l e =
+      let m : Pair = (getD list i 0, getD list (i + 1) 0) in
+      let n : t .moves + 1 + length (pairsIn list (i + 2) high) ≡ t .moves + length (m ∷ pairsIn list (i + 2) high) = omega arith in
+      record {
+        room = omega (arith, ap (λ (x : Tally). x .moves) e, s .room);
+        ends = rw (e, n) (rw (pairs-more list i high fits l) at (s .ends));
+      }
+
+  -- all are counted
+  pub tallying-done : high < i + 2 → t ≡ end
+  tallying-done l = simp add-zero at (rw (pairs-none list i high fits l) at (s .ends))

@@ -6,11 +6,12 @@ use lib.ListN.{length}
 use lib.Seq.{slice}
 use Rattle.counting.specs.Lists.{Pair}
 use Rattle.counting.specs.Checks.{first, refusal}
-use Rattle.answers.specs.Answers.{movesOf}
 use Rattle.counting.specs.Every.{All}
 use Rattle.racks.specs.Job.{racksOf}
 use Rattle.racks.specs.declared.Job.{Job}
+use Rattle.answers.specs.Answers.{movesOf, plusMoves}
 use Rattle.answers.specs.declared.Answer.{Answer}
+use Rattle.answers.specs.declared.Tally.{Tally}
 use Rattle.tables.specs.Tables.{cardsNumber}
 use Rattle.moves.specs.Moves.{Held, carried, Outcome, outcome, endChecks}
 
@@ -29,6 +30,11 @@ moveNumber job b h m = first (refusal (cardsNumber job b (h .places) (h .cards))
 -- one move, by a job
 unfoldable pub movedBy : Job → ℕ → Held → Pair → Outcome
 movedBy job b h m = outcome (moveNumber job b h m) (movesOf 1) (carried b (m ∷ []) h) h
+
+-- moves carried, and each of them added to the tally
+pub record Carried (b : ℕ) (ms : List Pair) (h : Held) (t : Tally) (h′ : Held) (t′ : Tally) : Type 0 where
+  pub held-is : h′ ≡ carried b ms h
+  pub tally-is : t′ ≡ plusMoves (length ms) t
 
 -- the pairs of a list of numbers, two for each: undoes `flat`; a last number with no partner is left out
 unfoldable pub unflat : List ℕ → List Pair

@@ -9,7 +9,7 @@ ghost use Rattle.racks.specs.Job.{racksOf, Fit};
 ghost use Rattle.tables.specs.Tables.{Open};
 ghost use Rattle.moves.specs.Blocks.{block, putBlock, blank};
 ghost use Rattle.moves.specs.Moves.{carried, endChecks};
-ghost use Rattle.moves.specs.Parts.{held, outcomeOf, pairsIn, AllSlots, movedBy, MoveChecked};
+ghost use Rattle.moves.specs.Parts.{held, outcomeOf, pairsIn, AllSlots, Carried, movedBy, MoveChecked};
 use answers::Answer;
 use answers::Tally;
 use racks::Job;
@@ -129,16 +129,28 @@ pub fn move_job(
     one_made()
 }
 
-// The moves that stand in `pairs` from index `low` up to `high`, from and to of each, in their order.
-pub fn carry(pairs: &[u16], low: usize, high: usize, places: &mut [u16], cards: &mut [u8], b: usize)
+// The moves that stand in `pairs` from index `low` up to `high`, from and to of each, in their order; gives the tally with each of them added.
+pub fn carry(
+    pairs: &[u16],
+    low: usize,
+    high: usize,
+    places: &mut [u16],
+    cards: &mut [u8],
+    b: usize,
+    tally: Tally,
+) -> Tally
     requires sized { ⌜ length (now places) * b ≡ length (now cards) ⌝ }
     requires within { ⌜ (low ≤ high) × (high ≤ length (now pairs)) ⌝ }
     requires slots { ⌜ AllSlots (length (now places)) (pairsIn (now pairs) low high) ⌝ }
-    ensures { λ _. ⌜ held (now (places .exit)) (now (cards .exit)) ≡ carried b (pairsIn (now (pairs .entry)) low high) (held (now (places .entry)) (now (cards .entry))) ⌝ }
+    requires counted { ⌜ tally .moves + high < 18446744073709551615 ⌝ }
+    ensures { λ r. ⌜ Carried b (pairsIn (now (pairs .entry)) low high) (held (now (places .entry)) (now (cards .entry))) tally (held (now (places .exit)) (now (cards .exit))) r ⌝ }
 {
+    let mut made = tally;
     let mut i = low;
     while i + 2 <= high {
         move_card(places, cards, b, pairs[i] as usize, pairs[i + 1] as usize);
+        made = made.add_move();
         i = i + 2;
     }
+    made
 }
