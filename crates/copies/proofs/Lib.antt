@@ -12,5 +12,6 @@ pub mod Sourced
 pub mod Walking
 pub mod Writing
 pub mod Progress
+pub mod Tallied
 pub mod Copied
 pub mod Accepted

@@ -1,141 +1,198 @@
--- How far the pass over the slots has come: the copies written, the slots marked, the factors to come. Assumes nothing.
+-- How far a pass over the slots has come: the slots marked, the copies made, the factors to come. Assumes nothing.
 use mathlib.Core.Path.{_≡_, refl, sym, ap, _∙_}
 use mathlib.Core.Logic.{_≢_}
-use mathlib.Core.List.{List, [], _∷_, _++_, append-assoc, append-nil}
+use mathlib.Core.List.{List, [], _++_, append-assoc, append-nil}
 use Prim.Native.Nat.{ℕ, suc, _+_, _-_, _≤_, _<_}
 use native.Mathlib.Omega.{arith}
 use native.Mathlib.Numerals.{add-one}
 use native.Mathlib.Decide.{decLt}
-use lib.ListN.{length, getD, replicate, length-append, getD-replicate, List·getD-eq-default}
+use lib.ListN.{length, getD, replicate, length-append, getD-replicate, List·getD-eq-default, length-replicate}
 use borrow.Author.Tests.{eq-eqb, ne-eqb}
-use Rattle.counting.specs.Tests.{_or_, bit}
+use Rattle.counting.specs.Tests.{_or_}
 use Rattle.counting.specs.Lists.{Pair, join, each, among}
 use Rattle.counting.proofs.Tests.{by-test}
-use Rattle.copies.specs.Copies.{onward, head, factor, factorsFrom, factors, copies, copyList}
-use Rattle.copies.specs.Chains.{Chained}
-use Rattle.copies.specs.Writes.{putCopies, Marked, First, due, Written, Passed, AllWritten}
-use Rattle.copies.proofs.Chains.{head-low, cycle-ends}
-use Rattle.copies.proofs.Costs.{list-most}
 use Rattle.counting.proofs.Members.{among-append}
-use Rattle.copies.proofs.Writing.{put-none, put-append}
+use Rattle.copies.specs.Copies.{factor, factorsFrom, factors, copies, copyList}
+use Rattle.copies.specs.Chains.{Chained}
+use Rattle.copies.specs.Writes.{putCopies, walked, walkCount, Unmarked, Marked, due, Walked, Counted, Written, AllWritten}
+use Rattle.copies.proofs.Costs.{list-most}
+use Rattle.copies.proofs.Walking.{mark-none}
+use Rattle.copies.proofs.Writing.{put-none, put-append, length-walked}
 
--- the marks say which slots are done
-abbrev pub Seen : List ℕ → List ℕ → Type 0
-Seen seen done = (v : ℕ) → getD seen v 0 ≡ bit (among v done)
+-- marks as they are made
+pub unmarked-first : (mark : ℕ) → mark ≢ 0 → (seen : List ℕ) → seen ≡ replicate 4096 0 → Unmarked mark seen
+unmarked-first mark q seen e = rw e (record {
+  none = λ v i. q (sym i ∙ zeros v);
+  long = length-replicate {A = ℕ} 4096 0;
+})
+  where
+    zeros : (v : ℕ) → getD (replicate {A = ℕ} 4096 0) v 0 ≡ 0
+    zeros v = elim (decLt v 4096) [ yes l ↦ getD-replicate 4096 v 0 0 l | no l ↦ let r : length (replicate {A = ℕ} 4096 0) ≤ v = omega arith in List·getD-eq-default (replicate 4096 0) 0 r ]
 
--- at slot k: copies are written from the front of `start`, which is now `list`; of the copy list those of later factors are left
-pub record Progress (places : List ℕ) (k at : ℕ) (start list seen : List ℕ) : Type 0 where
-  pub done : List ℕ
-  pub made : List Pair
-  pub marks : Seen seen done
-  pub split : copyList places ≡ made ++ join (each (copies places) (factorsFrom places (length places - k) k done))
-  pub count : at ≡ length made
-  pub wrote : list ≡ putCopies start 0 made
+-- marks of another kind
+pub unmarked-other : (mark other : ℕ) → other ≢ mark → (slots before after : List ℕ) → Unmarked mark before → Marked other slots before after → Unmarked mark after
+unmarked-other mark other q slots before after u m = record {
+  none = λ v. by-test (among v slots) (λ e i. q (sym (m .marks v ∙ rw e) ∙ i)) (λ e i. u .none v (sym (m .marks v ∙ rw e) ∙ i));
+  long = m .long ∙ u .long;
+}
 
--- at first nothing is written or marked
-pub progress-start : (places list : List ℕ) → Progress places 0 0 list list (replicate 4096 0)
-unfolding copyList factors among
-progress-start places list =
-    let e : length places - 0 ≡ length places = omega arith in
-    record {
-      done = [];
-      made = [];
-      marks = λ v. elim (decLt v 4096) [ yes l ↦ getD-replicate 4096 v 0 0 l | no l ↦ let q : length (replicate {A = ℕ} 4096 0) ≤ v = omega arith in List·getD-eq-default (replicate 4096 0) 0 q ];
-      split = rw e;
-      count = refl;
-      wrote = sym (put-none list 0);
-    }
-
--- what is due at slot k
-pub due-none : (places seen : List ℕ) (k : ℕ) → getD seen k 0 ≢ 0 → due places seen k ≡ []
+-- what is due at slot k: nothing where it is marked
+pub due-none : (places seen : List ℕ) (mark k : ℕ) → getD seen k 0 ≡ mark → due places mark seen k ≡ []
 unfolding due
-due-none places seen k q = rw (ne-eqb (getD seen k 0) 0 q)
+due-none places seen mark k e = rw (eq-eqb (getD seen k 0) mark e)
 
--- where slot k is not marked, its factor
-pub due-factor : (places seen : List ℕ) (k : ℕ) → getD seen k 0 ≡ 0 → due places seen k ≡ factor places k
+-- where it is not, its factor
+pub due-factor : (places seen : List ℕ) (mark k : ℕ) → getD seen k 0 ≢ mark → due places mark seen k ≡ factor places k
 unfolding due
-due-factor places seen k e = rw (eq-eqb (getD seen k 0) 0 e)
+due-factor places seen mark k q = rw (ne-eqb (getD seen k 0) mark q)
 
 no-copies : (places : List ℕ) → copies places [] ≡ []
 unfolding copies
 no-copies places = refl
 
-module _ (places : List ℕ) (k at : ℕ) (start list seen : List ℕ) (p : Progress places k at start list seen) where
-  -- behind the last slot all copies are written
-  pub progress-end : k ≡ length places → AllWritten places start at list
+-- at slot k: some slots are marked, and of the copy list these copies are made, those of later factors left
+pub record Progress (places : List ℕ) (mark k : ℕ) (start seen : List ℕ) (made : List Pair) : Type 0 where
+  pub done : List ℕ
+  pub marks : Marked mark done start seen
+  pub split : copyList places ≡ made ++ join (each (copies places) (factorsFrom places (length places - k) k done))
+
+-- at first none is
+pub progress-start : (places start : List ℕ) (mark : ℕ) → Progress places mark 0 start start []
+unfolding copyList factors
+progress-start places start mark =
+    let e : length places - 0 ≡ length places = omega arith in
+    record { done = []; marks = mark-none mark start; split = rw e }
+
+module _ (places : List ℕ) (mark k : ℕ) (start seen : List ℕ) (made : List Pair) (p : Progress places mark k start seen made) where
+  -- behind the last slot all copies are made
+  pub progress-end : k ≡ length places → copyList places ≡ made
   unfolding join each factorsFrom
-  progress-end e =
-      let z : length places - k ≡ 0 = omega arith in
-      let w : copyList places ≡ p .made = rw z at (p .split) ∙ append-nil (p .made) in
-      record { count-is = p .count ∙ ap length (sym w); list-is = p .wrote ∙ ap (putCopies start 0) (sym w) }
+  progress-end e = let z : length places - k ≡ 0 = omega arith in rw z at (p .split) ∙ append-nil made
 
-  module _ (low : k < length places) where
-    -- the copies due at slot k come next in the list
-    abbrev next-done : List ℕ
-    next-done = due places seen k ++ p .done
+  -- the copies due at slot k come next in the list
+  module _ (fresh : Unmarked mark start) (low : k < length places) where
+    abbrev now-due : List ℕ
+    now-due = due places mark seen k
 
-    split-on : copyList places ≡ (p .made ++ copies places (due places seen k)) ++ join (each (copies places) (factorsFrom places (length places - (k + 1)) (k + 1) next-done))
+    split-on : copyList places ≡ (made ++ copies places now-due) ++ join (each (copies places) (factorsFrom places (length places - (k + 1)) (k + 1) (now-due ++ p .done)))
     unfolding join each factorsFrom
     split-on =
         let i : length places - k ≡ suc (length places - (k + 1)) = omega arith in
         p .split ∙ by-test (among k (p .done))
         (λ e.
-        let d : due places seen k ≡ [] = due-none places seen k (λ z. omega (arith, sym (p .marks k ∙ ap bit e) ∙ z)) in
+        let d : due places mark seen k ≡ [] = due-none places seen mark k (p .marks .marks k ∙ rw e) in
         rw (d, i, e, add-one k, no-copies places, append-nil))
         (λ e.
-        let d : due places seen k ≡ factor places k = due-factor places seen k (p .marks k ∙ ap bit e) in
-        rw (d, i, e, add-one k) (sym (append-assoc (p .made) (copies places (factor places k)) _)))
+        let d : due places mark seen k ≡ factor places k = due-factor places seen mark k (λ q. fresh .none k (sym (p .marks .marks k ∙ rw e) ∙ q)) in
+        rw (d, i, e, add-one k) (sym (append-assoc made (copies places (factor places k)) _)))
 
-    -- there is room for them
-    pub progress-room : Chained places → at + length (copies places (due places seen k)) ≤ 6144
-    progress-room ok =
+    -- they are not more than the list has
+    pub progress-room : length made + length (copies places now-due) ≤ length (copyList places)
+    progress-room =
         omega (
           arith,
-          list-most ok,
-          ok .small,
-          p .count,
           ap length split-on,
-          length-append (p .made) (copies places (due places seen k)),
-          length-append (p .made ++ copies places (due places seen k)) (join (each (copies places) (factorsFrom places (length places - (k + 1)) (k + 1) next-done))),
+          length-append made (copies places now-due),
+          length-append (made ++ copies places now-due) (join (each (copies places) (factorsFrom places (length places - (k + 1)) (k + 1) (now-due ++ p .done)))),
         )
 
     -- one slot more
-    pub progress-more : (at₂ : ℕ) (list₂ seen₂ : List ℕ) → Passed places (due places seen k) at list seen at₂ list₂ seen₂ → Progress places (k + 1) at₂ start list₂ seen₂
+    pub progress-more : (seen₂ : List ℕ) → Marked mark now-due seen seen₂ → Progress places mark (k + 1) start seen₂ (made ++ copies places now-due)
     unfolding _or_
-    progress-more at₂ list₂ seen₂ w = record {
-      done = next-done;
-      made = p .made ++ copies places (due places seen k);
-      marks = λ v. w .marked .marks v ∙ rw (p .marks v, among-append v (due places seen k) (p .done)) (by-test (among v (due places seen k)) (λ e. rw e) (λ e. rw e));
-      split = split-on;
-      count = omega (arith, w .written .count-is, p .count, length-append (p .made) (copies places (due places seen k)));
-      wrote = let e : at ≡ 0 + length (p .made) = omega (arith, p .count) in w .written .list-is ∙ rw (p .wrote, e) (sym (put-append start 0 (p .made) (copies places (due places seen k))));
+    progress-more seen₂ m = record { done = now-due ++ p .done; marks = both m; split = split-on }
+      where
+        both : Marked mark now-due seen seen₂ → Marked mark (now-due ++ p .done) start seen₂
+        both m = record {
+          marks = λ v. m .marks v ∙ rw (p .marks .marks v, among-append v now-due (p .done)) (by-test (among v now-due) (λ e. rw e) (λ e. rw e));
+          long = m .long ∙ p .marks .long;
+        }
+
+-- at most 6,144 copies
+pub few-copies : {places : List ℕ} → Chained places → length (copyList places) ≤ 6144
+few-copies ok = omega (arith, list-most ok, ok .small)
+
+-- the copies of the slots before k are counted
+pub record Counting (places : List ℕ) (mark k at : ℕ) (start seen : List ℕ) : Type 0 where
+  pub made : List Pair
+  pub progress : Progress places mark k start seen made
+  pub count : at ≡ length made
+
+-- none is
+pub counting-start : (places start : List ℕ) (mark : ℕ) → Counting places mark 0 0 start start
+counting-start places start mark = record { made = []; progress = progress-start places start mark; count = refl }
+
+module _ (places : List ℕ) (mark k at : ℕ) (start seen : List ℕ) (p : Counting places mark k at start seen) where
+  -- behind the last slot all are
+  pub counting-end : k ≡ length places → at ≡ length (copyList places)
+  counting-end e = p .count ∙ ap length (sym (progress-end places mark k start seen (p .made) (p .progress) e))
+
+  module _ (fresh : Unmarked mark start) (low : k < length places) where
+    -- there is room for those of slot k
+    pub counting-room : at + length (copies places (due places mark seen k)) ≤ length (copyList places)
+    counting-room = omega (arith, p .count, progress-room places mark k start seen (p .made) (p .progress) fresh low)
+
+    -- those of slot k too
+    pub counting-more : (at₂ : ℕ) (seen₂ : List ℕ) → Counted places mark k at seen at₂ seen₂ → Counting places mark (k + 1) at₂ start seen₂
+    counting-more at₂ seen₂ c = record {
+      made = p .made ++ copies places (due places mark seen k);
+      progress = progress-more places mark k start seen (p .made) (p .progress) fresh low seen₂ (c .marked);
+      count = omega (arith, c .count-is, p .count, length-append (p .made) (copies places (due places mark seen k)));
     }
 
--- slot k is marked: nothing is due
-pub passed-none : (places list seen : List ℕ) (k at : ℕ) → getD seen k 0 ≢ 0 → Passed places (due places seen k) at list seen at list seen
-unfolding among
-passed-none places list seen k at q =
-    rw (due-none places seen k q)
-    (record { written = record { count-is = rw (no-copies places) (omega arith); list-is = rw (no-copies places) (sym (put-none list at)) }; marked = record { marks = λ v. refl; long = refl } })
-
--- the first slot of a factor
-pub head-first : {places : List ℕ} → Chained places → (k : ℕ) → k < length places → First places (head places k)
-head-first {places} ok k low = record {
-  low = head-low ok k low;
-  turns = λ q. rw (cycle-ends ok k low q) (omega (arith, head-low ok k low, ok .small));
+-- slot k is marked: nothing is counted
+pub counted-none : (places seen : List ℕ) (mark k at : ℕ) → getD seen k 0 ≡ mark → Counted places mark k at seen at seen
+counted-none places seen mark k at e = record {
+  count-is = let z : length (copies places (due places mark seen k)) ≡ 0 = ap length (ap (copies places) (due-none places seen mark k e) ∙ no-copies places) in omega arith;
+  marked = rw (due-none places seen mark k e) (mark-none mark seen);
 }
 
--- it is not: its factor is due, from its first slot h on
-module _ (places seen : List ℕ) (k : ℕ) (z : getD seen k 0 ≡ 0) (h : ℕ) (is : h ≡ head places k) where
-  due-is : due places seen k ≡ h ∷ onward places h
-  unfolding factor
-  due-is = due-factor places seen k z ∙ rw is
+-- it is not: its factor is walked and its copies are counted
+module _ (places seen : List ℕ) (mark k : ℕ) (q : getD seen k 0 ≢ mark) (h n end : ℕ) (marks : List ℕ) (w : Walked places mark k seen h n end marks) where
+  -- they are those that are due
+  pub due-copies : copies places (due places mark seen k) ≡ walked places h n end
+  due-copies = ap (copies places) (due-factor places seen mark k q) ∙ w .copies-are
 
-  -- there is room for its copies
-  pub due-room : (at : ℕ) → at + length (copies places (due places seen k)) ≤ 6144 → at + length (copies places (h ∷ onward places h)) ≤ 6144
-  due-room at l = rw due-is at l
+  -- so many
+  pub due-count : length (copies places (due places mark seen k)) ≡ walkCount n end
+  due-count = ap length due-copies ∙ length-walked places h n end
 
-  -- its copies are written, its slots marked
-  pub passed-due : (at count : ℕ) (list after marks : List ℕ) → Written places (h ∷ onward places h) at list count after → Marked (h ∷ onward places h) seen marks
-      → Passed places (due places seen k) at list seen count after marks
-  passed-due at count list after marks w m = rw due-is (record { written = w; marked = m })
+  pub due-marked : Marked mark (due places mark seen k) seen marks
+  due-marked = rw (due-factor places seen mark k q) (w .marked)
+
+  pub counted-due : (at count : ℕ) → count ≡ at + walkCount n end → Counted places mark k at seen count marks
+  counted-due at count e = record { count-is = e ∙ ap (λ (m : ℕ). at + m) (sym due-count); marked = due-marked }
+
+-- the copies of the slots before k are written
+pub record Listing (places : List ℕ) (mark k at : ℕ) (start seen list after : List ℕ) : Type 0 where
+  pub counting : Counting places mark k at start seen
+  pub wrote : after ≡ putCopies list 0 (counting .made)
+
+-- none is
+pub listing-start : (places start list : List ℕ) (mark : ℕ) → Listing places mark 0 0 start start list list
+unfolding counting-start
+listing-start places start list mark = record { counting = counting-start places start mark; wrote = sym (put-none list 0) }
+
+module _ (places : List ℕ) (mark k at : ℕ) (start seen list after : List ℕ) (p : Listing places mark k at start seen list after) where
+  -- behind the last slot all are
+  pub listing-end : k ≡ length places → AllWritten places list at after
+  listing-end e = record {
+    count-is = counting-end places mark k at start seen (p .counting) e;
+    list-is = p .wrote ∙ ap (putCopies list 0) (sym (progress-end places mark k start seen (p .counting .made) (p .counting .progress) e));
+  }
+
+  -- those of slot k too
+  pub listing-more : Unmarked mark start → k < length places → (at₂ : ℕ) (after₂ seen₂ : List ℕ) → Written places mark k at after seen at₂ after₂ seen₂ → Listing places mark (k + 1) at₂ start seen₂ list after₂
+  unfolding counting-more
+  listing-more fresh low at₂ after₂ seen₂ w = record {
+    counting = counting-more places mark k at start seen (p .counting) fresh low at₂ seen₂ (w .counted);
+    wrote =
+        let e : at ≡ 0 + length (p .counting .made) = omega (arith, p .counting .count) in
+        w .list-is ∙ rw (p .wrote, e) (sym (put-append list 0 (p .counting .made) (copies places (due places mark seen k))));
+  }
+
+-- slot k is marked: nothing is written
+pub written-none : (places seen list : List ℕ) (mark k at : ℕ) → getD seen k 0 ≡ mark → Written places mark k at list seen at list seen
+written-none places seen list mark k at e = record {
+  counted = counted-none places seen mark k at e;
+  list-is = sym (put-none list at) ∙ ap (putCopies list at) (sym (ap (copies places) (due-none places seen mark k e) ∙ no-copies places));
+}

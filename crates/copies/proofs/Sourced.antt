@@ -6,7 +6,7 @@ use Prim.Native.Nat.{ℕ, _+_, _<_}
 use native.Mathlib.Omega.{arith}
 use native.Mathlib.Numerals.{add-one}
 use native.Mathlib.Decide.{ℕ-discrete}
-use lib.ListN.{length, getD, set, replicate, length-set, getD-replicate, length-replicate}
+use lib.ListN.{length, getD, set, length-set, getD-replicate, length-replicate}
 use lib.Seq.{getD-set-same, getD-set-other}
 use borrow.Author.Tests.{eq-eqb, ne-eqb}
 use Rattle.counting.specs.Count.{seek}
@@ -15,7 +15,7 @@ use Rattle.racks.specs.Table.{dest, names}
 use Rattle.copies.specs.Copies.{source}
 use Rattle.copies.specs.Chains.{Chained}
 use Rattle.tables.specs.Tables.{namedSlot}
-use Rattle.copies.specs.Writes.{Sources, SourcesNoted, FrontCopied, putSource}
+use Rattle.copies.specs.Writes.{noSources, Sources, putSource}
 use Rattle.copies.proofs.Chains.{next-is}
 
 -- the sources among the first g slots are in the table
@@ -46,9 +46,9 @@ seek-off places g d q = rw (add-one g, ne-eqb (dest places g) d q)
 
 module _ (places : List ℕ) where
   -- at first there are none
-  pub sources-none : SourcesTo places 0 (replicate 4097 65535)
+  pub sources-none : (table : List ℕ) → table ≡ noSources → SourcesTo places 0 table
   unfolding seek
-  sources-none = record { sources = λ d l. getD-replicate 4097 d 65535 0 (omega arith); long = length-replicate {A = ℕ} 4097 65535 }
+  sources-none table e = rw e (record { sources = λ d l. getD-replicate 4097 d 65535 0 (omega arith); long = length-replicate {A = ℕ} 4097 65535 })
 
   -- one slot's entry more
   pub sources-more : (g : ℕ) (table after : List ℕ) → SourcesTo places g table → after ≡ putSource table (dest places g) g → SourcesTo places (g + 1) after
@@ -72,21 +72,9 @@ module _ (places : List ℕ) where
   ]
 
   -- after all entries the table is the inverse
-  pub sources-all : (g : ℕ) (table : List ℕ) → g ≡ length places → SourcesTo places g table → SourcesNoted places table
+  pub sources-all : (g : ℕ) (table : List ℕ) → g ≡ length places → SourcesTo places g table → Sources places table
   unfolding source
-  sources-all g table e s = record { sources = λ d l. s .sources d l ∙ ap (λ (n : ℕ). seek FREE n (names places d)) e }
-
--- copied, it is the inverse still
-pub sources-copied : (places noted table : List ℕ) → SourcesNoted places noted → FrontCopied 4096 noted table → Sources places table
-sources-copied places noted table s f = record { sources = λ d l. f .numbers d l ∙ s .sources d l; long = f .long }
-
--- one number more
-pub copied-more : (d : ℕ) (noted table : List ℕ) → d < length table → ((k : ℕ) → k < d → getD table k 0 ≡ getD noted k 0)
-    → (k : ℕ) → k < d + 1 → getD (set table d (getD noted d 0)) k 0 ≡ getD noted k 0
-copied-more d noted table l h k m = elim (ℕ-discrete k d) [
-  | yes e ↦ rw e (getD-set-same table d (getD noted d 0) 0 l)
-  | no q ↦ getD-set-other table d k (getD noted d 0) 0 q ∙ h k (omega arith)
-]
+  sources-all g table e s = record { sources = λ d l. s .sources d l ∙ ap (λ (n : ℕ). seek FREE n (names places d)) e; long = s .long }
 
 -- a card's destination is a slot of the table
 pub entry-low : {places : List ℕ} → Chained places → (g : ℕ) → g < length places → dest places g ≢ FREE → dest places g < length places

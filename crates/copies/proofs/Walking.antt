@@ -1,7 +1,6 @@
 -- A walk as a loop makes it: what has been passed, and what is to come. Assumes nothing.
 use mathlib.Core.Path.{_≡_, refl, sym, ap, _∙_}
 use mathlib.Core.Logic.{_≢_, inl, inr}
-use mathlib.Core.Bool.{Bool, true, false}
 use mathlib.Core.List.{List, [], _∷_, _++_, append-assoc, append-nil}
 use Prim.Native.Nat.{ℕ, suc, _+_, _-_, _≤_, _<_}
 use native.Mathlib.Omega.{arith}
@@ -9,10 +8,10 @@ use native.Mathlib.Decide.{ℕ-discrete}
 use lib.ListN.{length, set, length-append, length-set}
 use lib.Seq.{getD-set-same, getD-set-other}
 use borrow.Author.Tests.{eq-eqb, ne-eqb}
-use Rattle.counting.specs.Tests.{_or_, pick}
+use Rattle.counting.specs.Tests.{_or_}
 use Rattle.counting.specs.Lists.{among, last}
 use Rattle.counting.proofs.Members.{among-append}
-use Rattle.counting.proofs.Tests.{by-test}
+use Rattle.counting.proofs.Tests.{by-test, pick-same}
 use Rattle.racks.specs.Limits.{FREE}
 use Rattle.copies.specs.Copies.{next, source, after, onward, back, head}
 use Rattle.copies.specs.Chains.{Chained}
@@ -81,59 +80,62 @@ module _ {places : List ℕ} (ok : Chained places) (k : ℕ) (low : k < length p
   never-out l = omega (arith, ap length (walk-out (source places) k (length places) n x w l), w .count, back-short ok k low)
 
 -- marks
-pub mark-one : (seen : List ℕ) (x : ℕ) → x < length seen → Marked (x ∷ []) seen (set seen x 1)
-unfolding among _or_
-mark-one seen x h = record {
-  marks = λ v. elim (ℕ-discrete v x) [
-    | yes e ↦ rw (e, eq-eqb x x refl) (getD-set-same seen x 1 0 h)
-    | no q ↦ rw (ne-eqb v x q) (getD-set-other seen x v 1 0 q)
-  ];
-  long = length-set seen x 1;
-}
+module _ (mark : ℕ) where
+  -- one slot is marked
+  pub mark-one : (seen : List ℕ) (x : ℕ) → x < length seen → Marked mark (x ∷ []) seen (set seen x mark)
+  unfolding among _or_
+  mark-one seen x h = record {
+    marks = λ v. elim (ℕ-discrete v x) [
+      | yes e ↦ rw (e, eq-eqb x x refl) (getD-set-same seen x mark 0 h)
+      | no q ↦ rw (ne-eqb v x q) (getD-set-other seen x v mark 0 q)
+    ];
+    long = length-set seen x mark;
+  }
 
--- slots marked, and then others
-pub mark-more : (a b : List ℕ) (s t u : List ℕ) → Marked a s t → Marked b t u → Marked (a ++ b) s u
-unfolding _or_
-mark-more a b s t u m n = record {
-  marks = λ v. n .marks v ∙ rw (m .marks v, among-append v a b) (by-test (among v a) (λ e. rw e (both v (among v b))) (λ e. rw e));
-  long = n .long ∙ m .long;
-}
-  where
-    both : (v : ℕ) (b : Bool) → _≡_ {A = ℕ} (pick b 1 1) 1
-    both v true = refl
-    both v false = refl
+  -- slots marked, and then others
+  pub mark-more : (a b : List ℕ) (s t u : List ℕ) → Marked mark a s t → Marked mark b t u → Marked mark (a ++ b) s u
+  unfolding _or_
+  mark-more a b s t u m n = record {
+    marks = λ v. n .marks v ∙ rw (m .marks v, among-append v a b) (by-test (among v a) (λ e. rw e (pick-same (among v b) mark)) (λ e. rw e));
+    long = n .long ∙ m .long;
+  }
+
+  -- no slot is
+  pub mark-none : (seen : List ℕ) → Marked mark [] seen seen
+  unfolding among
+  mark-none seen = record { marks = λ v. refl; long = refl }
 
 -- the chain from h, as the code marks it behind h
-pub record Marking (places : List ℕ) (h n x : ℕ) (before after : List ℕ) : Type 0 where
+pub record Marking (mark : ℕ) (places : List ℕ) (h n x : ℕ) (before after : List ℕ) : Type 0 where
   pub walking : Walking (next places) h (length places) n x
-  pub marked : Marked (walking .past) before after
+  pub marked : Marked mark (walking .past) before after
 
-module _ (places : List ℕ) (h : ℕ) where
+module _ (mark : ℕ) (places : List ℕ) (h : ℕ) where
   -- at first only h is marked
-  pub marking-begin : (before : List ℕ) → Marking places h 0 h before before
-  unfolding walk-begin among
-  marking-begin before = record { walking = walk-begin (next places) h (length places); marked = record { marks = λ v. refl; long = refl } }
+  pub marking-begin : (before : List ℕ) → Marking mark places h 0 h before before
+  unfolding walk-begin
+  marking-begin before = record { walking = walk-begin (next places) h (length places); marked = mark-none mark before }
 
-  module _ (n x : ℕ) (before seen : List ℕ) (m : Marking places h n x before seen) where
+  module _ (n x : ℕ) (before seen : List ℕ) (m : Marking mark places h n x before seen) where
     -- a slot more is marked
-    pub marking-more : (y : ℕ) → n < length places → y ≡ next places x → y ≢ FREE → y ≢ h → y < length seen → Marking places h (n + 1) y before (set seen y 1)
+    pub marking-more : (y : ℕ) → n < length places → y ≡ next places x → y ≢ FREE → y ≢ h → y < length seen → Marking mark places h (n + 1) y before (set seen y mark)
     unfolding walk-more
     marking-more y l e p q b = record {
       walking = walk-more (next places) h (length places) n x y (m .walking) l e p q;
-      marked = mark-more (m .walking .past) (y ∷ []) before seen (set seen y 1) (m .marked) (mark-one seen y b);
+      marked = mark-more mark (m .walking .past) (y ∷ []) before seen (set seen y mark) (m .marked) (mark-one mark seen y b);
     }
 
   -- h is marked, and the chain behind it: counted
-  module _ (n x : ℕ) (start seen : List ℕ) (low : h < length start) (m : Marking places h n x (set start h 1) seen) where
-    done : onward places h ≡ m .walking .past → (n ≡ length (onward places h)) × Marked (h ∷ onward places h) start seen
-    done e = rw e (sym (m .walking .count), mark-more (h ∷ []) (m .walking .past) start (set start h 1) seen (mark-one start h low) (m .marked))
+  module _ (n x : ℕ) (start seen : List ℕ) (low : h < length start) (m : Marking mark places h n x (set start h mark) seen) where
+    done : onward places h ≡ m .walking .past → (n ≡ length (onward places h)) × Marked mark (h ∷ onward places h) start seen
+    done e = rw e (sym (m .walking .count), mark-more mark (h ∷ []) (m .walking .past) start (set start h mark) seen (mark-one mark start h low) (m .marked))
 
     -- the chain ends here
-    pub marking-stop : Ends h (next places x) → (n ≡ length (onward places h)) × Marked (h ∷ onward places h) start seen
+    pub marking-stop : Ends h (next places x) → (n ≡ length (onward places h)) × Marked mark (h ∷ onward places h) start seen
     unfolding onward
     marking-stop e = done (walk-stop (next places) h (length places) n x (m .walking) e)
 
     -- all steps are made
-    pub marking-out : length places ≤ n → (n ≡ length (onward places h)) × Marked (h ∷ onward places h) start seen
+    pub marking-out : length places ≤ n → (n ≡ length (onward places h)) × Marked mark (h ∷ onward places h) start seen
     unfolding onward
     marking-out l = done (walk-out (next places) h (length places) n x (m .walking) l)

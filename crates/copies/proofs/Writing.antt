@@ -5,17 +5,21 @@ use mathlib.Core.List.{List, [], _∷_, _++_}
 use Prim.Native.Nat.{ℕ, zero, suc, _+_, _-_, _*_, _≤_, _<_}
 use native.Mathlib.Omega.{arith}
 use native.Mathlib.Numerals.{add-one}
+use native.Mathlib.Decide.{ℕ-discrete}
+use lib.Dec.{eqb}
 use lib.ListN.{length, getD, take, drop, set, length-append}
 use lib.Seq.{sets, sets-eq, length-sets, take-at}
+use borrow.Author.Tests.{eq-eqb, ne-eqb}
 use Rattle.counting.specs.Lists.{Pair, flat, last}
+use Rattle.counting.proofs.Tests.{by-test}
 use Rattle.racks.specs.Limits.{FREE, HAND}
-use Rattle.copies.specs.Copies.{next, source, onward, shift, cycle, copies}
+use Rattle.copies.specs.Copies.{next, source, onward, head, factor, shift, cycle, copies}
 use Rattle.copies.specs.Chains.{Chained}
-use Rattle.copies.specs.Writes.{putCopies, steps, Inside, First, Written}
+use Rattle.copies.specs.Writes.{putCopies, steps, Inside, walked, walkCount, handEnd, Marked}
 use Rattle.counting.specs.Every.{In}
 use Rattle.counting.proofs.Stores.{length-flat, flat-append, sets-append, sets-take}
 use Rattle.copies.proofs.Walks.{Path}
-use Rattle.copies.proofs.Chains.{onward-low, onward-path, onward-ends, cycle-source, shift-ends}
+use Rattle.copies.proofs.Chains.{onward-low, onward-path, head-low, cycle-source, cycle-ends, shift-ends, source-low}
 use Rattle.copies.proofs.Costs.{length-shift, copies-shift, copies-cycle}
 
 -- one more of the numbers to be stored
@@ -95,68 +99,120 @@ shift-more list l m f at (suc n) x y e b q i j k p r =
     let d : e ≡ at + length (shift y (steps f n y)) = omega (arith, length-shift y (steps f n y), length-steps f n y) in
     r ∙ rw (p, z, j, d, ← i) (sym (put-append list at (shift y (steps f n y)) ((x, y) ∷ [])))
 
-module _ {places : List ℕ} (ok : Chained places) (h : ℕ) (n : ℕ) (first : First places h) (size : n ≡ length (onward places h)) where
-  -- the n slots that follow h
-  pub onward-inside : Inside places n h
-  onward-inside = rw size (inside-path places h h (onward places h) (onward-path ok h (first .low)) (onward-low ok h (first .low)))
+-- a factor has a copy for each slot that follows, at least
+pub walk-left : (n end : ℕ) → n ≤ walkCount n end
+unfolding walkCount
+walk-left n end = by-test (eqb end FREE) (λ t. rw t (omega arith)) (λ t. rw t (omega arith))
 
-  steps-onward : steps (next places) n h ≡ onward places h
-  steps-onward = rw size (steps-path (next places) h h (onward places h) (onward-path ok h (first .low)))
+-- a shift has as many
+pub count-shift : (n end : ℕ) → end ≡ FREE → walkCount n end ≡ n
+unfolding walkCount
+count-shift n end e = rw (eq-eqb end FREE e)
 
-  -- no card comes to h: a shift
-  pub shift-is : source places h ≡ FREE → copies places (h ∷ onward places h) ≡ shift h (steps (next places) n h)
-  shift-is e = copies-shift places h (onward places h) (shift-ends ok h (first .low) e) ∙ ap (shift h) (sym steps-onward)
+-- by the hand there are two more
+pub count-hand : (n end : ℕ) → end ≢ FREE → walkCount n end ≡ n + 2
+unfolding walkCount
+count-hand n end q = rw (ne-eqb end FREE q)
 
-  shift-long : length (shift h (steps (next places) n h)) ≡ n
-  shift-long = length-shift h (steps (next places) n h) ∙ length-steps (next places) n h
+-- the copies of a factor, as they are walked
+module _ (places : List ℕ) (h n end : ℕ) where
+  -- no card goes to the hand: a shift
+  pub walked-shift : end ≡ FREE → walked places h n end ≡ shift h (steps (next places) n h)
+  unfolding walked
+  walked-shift e = rw (eq-eqb end FREE e)
 
-  -- its copies are n
-  pub shift-size : source places h ≡ FREE → length (copies places (h ∷ onward places h)) ≡ n
-  shift-size e = ap length (shift-is e) ∙ shift-long
+  -- one does: by the hand
+  pub walked-hand : end ≢ FREE → walked places h n end ≡ (end, HAND) ∷ shift h (steps (next places) n h) ++ (HAND, h) ∷ []
+  unfolding walked
+  walked-hand q = rw (ne-eqb end FREE q)
 
-  module _ (q : source places h ≢ FREE) where
-    round : copies places (h ∷ onward places h) ≡ cycle h (onward places h)
-    round = copies-cycle places h (onward places h) (first .turns q)
+  -- a copy for each slot that follows, and two more by the hand
+  pub length-walked : length (walked places h n end) ≡ walkCount n end
+  unfolding walkCount
+  length-walked = elim (ℕ-discrete end FREE) [
+    | yes e ↦ ap length (walked-shift e) ∙ length-chain h ∙ rw (eq-eqb end FREE e)
+    | no q ↦ ap length (walked-hand q) ∙ by-hand ∙ rw (ne-eqb end FREE q)
+  ]
+    where
+      length-chain : (x : ℕ) → length (shift x (steps (next places) n x)) ≡ n
+      length-chain x = length-shift x (steps (next places) n x) ∙ length-steps (next places) n x
 
-    -- the last slot's card is the one that comes to h
-    last-source : last h (onward places h) ≡ source places h
-    last-source = elim (onward-ends ok h (first .low)) [ inl u ↦ absurd (first .turns q u) | inr u ↦ sym (cycle-source ok h (first .low) u) ]
-
-    settled-is : n ≡ 0 → copies places (h ∷ onward places h) ≡ []
-    unfolding cycle steps
-    settled-is z = let e : onward places h ≡ [] = sym steps-onward ∙ ap (λ (m : ℕ). steps (next places) m h) z in round ∙ ap (cycle h) e
-
-    -- a card comes to h: the last goes to the hand, the chain is copied back to front, the hand goes to h
-    pub cycle-is : n ≢ 0 → copies places (h ∷ onward places h) ≡ (source places h, HAND) ∷ shift h (steps (next places) n h) ++ (HAND, h) ∷ []
-    unfolding cycle last
-    cycle-is z = round ∙ rw steps-onward (unrolled (onward places h) (λ e. z (size ∙ ap length e)) last-source)
-      where
-        unrolled : (l : List ℕ) → l ≢ [] → last h l ≡ source places h → cycle h l ≡ (source places h, HAND) ∷ shift h l ++ (HAND, h) ∷ []
-        unrolled [] w e = absurd (w refl)
-        unrolled (y ∷ l) w e = rw e
-
-    -- its copies are n + 2
-    pub cycle-size : n ≢ 0 → length (copies places (h ∷ onward places h)) ≡ n + 2
-    cycle-size z = ap length (cycle-is z) ∙ omega (arith, length-append (shift h (steps (next places) n h)) ((HAND, h) ∷ []), shift-long)
-
-    -- written: a settled card
-    pub wrote-settled : (list : List ℕ) (at : ℕ) → n ≡ 0 → Written places (h ∷ onward places h) at list at list
-    wrote-settled list at z = record { count-is = omega (arith, ap length (settled-is z)); list-is = sym (put-none list at) ∙ ap (putCopies list at) (sym (settled-is z)) }
-
-    -- written: a cycle, in three parts
-    pub wrote-cycle : (list l₁ l₂ l₃ : List ℕ) (at e last first : ℕ) → n ≢ 0 → last ≡ source places h → first ≡ h → e ≡ at + 1 + n
-        → l₁ ≡ putCopies list at ((last, HAND) ∷ []) → l₂ ≡ putCopies l₁ (at + 1) (shift h (steps (next places) n h)) → l₃ ≡ putCopies l₂ e ((HAND, first) ∷ [])
-        → Written places (h ∷ onward places h) at list (e + 1) l₃
-    wrote-cycle list l₁ l₂ l₃ at e last first z i j k p r s =
-        let cs : List Pair = shift h (steps (next places) n h) in
-        let d : e ≡ at + length ((source places h, HAND) ∷ cs) = omega (arith, shift-long) in
-        record {
-          count-is = omega (arith, cycle-size z);
-          list-is =
-              s ∙ rw (r, p, i, j, ← put-append list at ((source places h, HAND) ∷ []) cs, d, ← put-append list at ((source places h, HAND) ∷ cs) ((HAND, h) ∷ []))
-              (ap (putCopies list at) (sym (cycle-is z)));
-        }
+      by-hand : length ((end, HAND) ∷ shift h (steps (next places) n h) ++ (HAND, h) ∷ []) ≡ n + 2
+      by-hand = omega (arith, length-append (shift h (steps (next places) n h)) ((HAND, h) ∷ []), length-chain h)
 
   -- written: a shift
-  pub wrote-shift : source places h ≡ FREE → (list l : List ℕ) (at e : ℕ) → e ≡ at + n → l ≡ putCopies list at (shift h (steps (next places) n h)) → Written places (h ∷ onward places h) at list e l
-  wrote-shift q list l at e i p = record { count-is = omega (arith, shift-size q); list-is = p ∙ ap (putCopies list at) (sym (shift-is q)) }
+  pub wrote-shift : end ≡ FREE → (list l : List ℕ) (at r : ℕ) → r ≡ at + n → l ≡ putCopies list at (shift h (steps (next places) n h)) → (r ≡ at + walkCount n end) × (l ≡ putCopies list at (walked places h n end))
+  unfolding walkCount
+  wrote-shift e list l at r i p = (i ∙ rw (eq-eqb end FREE e), p ∙ ap (putCopies list at) (sym (walked-shift e)))
+
+  -- written: by the hand, in three parts
+  pub wrote-hand : end ≢ FREE → (list l₁ l₂ l₃ : List ℕ) (at r first : ℕ) → first ≡ h → r ≡ at + 1 + n
+      → l₁ ≡ putCopies list at ((end, HAND) ∷ []) → l₂ ≡ putCopies l₁ (at + 1) (shift h (steps (next places) n h)) → l₃ ≡ putCopies l₂ r ((HAND, first) ∷ [])
+      → (r + 1 ≡ at + walkCount n end) × (l₃ ≡ putCopies list at (walked places h n end))
+  unfolding walkCount
+  wrote-hand q list l₁ l₂ l₃ at r first j k p o s =
+      let cs : List Pair = shift h (steps (next places) n h) in
+      let d : r ≡ at + length ((end, HAND) ∷ cs) = omega (arith, length-shift h (steps (next places) n h), length-steps (next places) n h) in
+      let c : r + 1 ≡ at + (n + 2) = omega arith in (
+        c ∙ rw (ne-eqb end FREE q),
+        s ∙ rw (o, p, j, ← put-append list at ((end, HAND) ∷ []) cs, d, ← put-append list at ((end, HAND) ∷ cs) ((HAND, h) ∷ [])) (ap (putCopies list at) (sym (walked-hand q))),
+      )
+
+-- the factor of slot k, from its first slot h, which s's card comes to; n slots follow
+module _ {places : List ℕ} (ok : Chained places) (k : ℕ) (low : k < length places) (h n s : ℕ) (is : h ≡ head places k) (size : n ≡ length (onward places h)) (from : s ≡ source places h) where
+  here : h < length places
+  here = rw is (head-low ok k low)
+
+  -- the n slots that follow h
+  pub walk-inside : Inside places n h
+  walk-inside = rw size (inside-path places h h (onward places h) (onward-path ok h here) (onward-low ok h here))
+
+  steps-onward : steps (next places) n h ≡ onward places h
+  steps-onward = rw size (steps-path (next places) h h (onward places h) (onward-path ok h here))
+
+  factor-is : factor places k ≡ h ∷ onward places h
+  unfolding factor
+  factor-is = rw is
+
+  turns : source places h ≢ FREE → next places (last h (onward places h)) ≡ h
+  turns q = rw (← is) at (cycle-ends ok k low (λ e. q (ap (source places) is ∙ e)))
+
+  -- a card comes to h: the factor is a cycle, and that card its last
+  round : source places h ≢ FREE → copies places (h ∷ onward places h) ≡ cycle h (onward places h)
+  round q = copies-cycle places h (onward places h) (λ e. omega (arith, ok .small, here, sym (turns q) ∙ e))
+
+  unrolled : (l : List ℕ) (e : ℕ) → length l ≢ 0 → last h l ≡ e → cycle h l ≡ (e, HAND) ∷ shift h l ++ (HAND, h) ∷ []
+  unfolding cycle last
+  unrolled [] e w i = absurd (w refl)
+  unrolled (y ∷ l) e w i = rw i
+
+  none-left : n ≡ 0 → onward places h ≡ []
+  unfolding steps
+  none-left z = sym steps-onward ∙ ap (λ (m : ℕ). steps (next places) m h) z
+
+  -- its copies
+  pub walk-copies : copies places (factor places k) ≡ walked places h n (handEnd s n)
+  unfolding handEnd cycle steps shift
+  walk-copies = ap (copies places) factor-is ∙ elim (ℕ-discrete (source places h) FREE) [
+    | yes e ↦
+        let f : handEnd s n ≡ FREE = by-test (eqb n 0) (λ t. rw t) (λ t. rw t (from ∙ e)) in
+        copies-shift places h (onward places h) (shift-ends ok h here e) ∙ ap (shift h) (sym steps-onward) ∙ sym (walked-shift places h n (handEnd s n) f)
+    | no q ↦ elim (ℕ-discrete n 0) [
+      | yes z ↦ round q ∙ ap (cycle h) (none-left z) ∙ sym (walked-shift places h n (handEnd s n) (rw (eq-eqb n 0 z)) ∙ rw z)
+      | no z ↦
+          let f : handEnd s n ≡ source places h = rw (ne-eqb n 0 z) from in
+          round q ∙ unrolled (onward places h) (source places h) (λ e. z (size ∙ e)) (sym (cycle-source ok h here (turns q))) ∙ rw (← steps-onward, ← f) (sym (walked-hand places h n (handEnd s n) (λ e. q (sym f ∙ e))))
+    ]
+  ]
+
+  -- the card that goes to the hand is in a slot
+  pub walk-held : handEnd s n ≢ FREE → handEnd s n < length places
+  unfolding handEnd
+  walk-held = elim (ℕ-discrete n 0) [
+    | yes z ↦ λ q. absurd (q (rw (eq-eqb n 0 z)))
+    | no z ↦ λ q. let f : handEnd s n ≡ source places h = rw (ne-eqb n 0 z) from in rw f (source-low ok h (λ e. q (f ∙ e)))
+  ]
+
+  -- its slots are marked
+  pub walk-marked : (mark : ℕ) (seen after : List ℕ) → Marked mark (h ∷ onward places h) seen after → Marked mark (factor places k) seen after
+  walk-marked mark seen after m = rw factor-is m

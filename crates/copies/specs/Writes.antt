@@ -2,35 +2,32 @@
 use mathlib.Core.Path.{_≡_}
 use mathlib.Core.Logic.{_≢_}
 use mathlib.Core.Bool.{Bool}
-use mathlib.Core.List.{List, [], _∷_}
+use mathlib.Core.List.{List, [], _∷_, _++_}
 use Prim.Native.Nat.{ℕ, zero, suc, _+_, _*_, _<_}
 use lib.Dec.{eqb}
-use lib.ListN.{length, getD, set}
+use lib.ListN.{length, getD, set, replicate}
 use lib.Seq.{sets}
 use Rattle.counting.specs.Tests.{pick}
 use Rattle.counting.specs.Count.{some}
-use Rattle.counting.specs.Lists.{Pair, flat, among, last}
-use Rattle.racks.specs.Limits.{FREE}
+use Rattle.counting.specs.Lists.{Pair, flat, among}
+use Rattle.racks.specs.Limits.{FREE, HAND}
+use Rattle.racks.specs.Numbers.{tooShort}
+use Rattle.answers.specs.Answers.{answer, noCounts, copiesOf, Listed, listedOf}
 use Rattle.tables.specs.Tables.{namedSlot, awayBy}
-use Rattle.copies.specs.Copies.{next, source, onward, factor, copies, copyList}
+use Rattle.copies.specs.Copies.{next, source, shift, factor, copies, copyList}
 
 -- a card is away, by a table of each slot's rack
 unfoldable pub someAwayBy : List ℕ → List ℕ → Bool
 someAwayBy table places = some (length places) (awayBy table places)
 
--- the table has, for each slot, the slot whose card is bound for it: the inverse of the places table
+-- a table for the sources, as it is made: no card comes anywhere
+abbrev pub noSources : List ℕ
+noSources = replicate 4097 FREE
+
+-- the table has, for each slot, the slot whose card is bound for it: the inverse of the places table; one place more, behind all slots, has what comes from free slots
 pub record Sources (places table : List ℕ) : Type 0 where
   pub sources : (d : ℕ) → d < 4096 → getD table d 0 ≡ source places d
-  pub long : length table ≡ 4096
-
--- the same in a table with a place more, where what comes from free slots is stored
-pub record SourcesNoted (places table : List ℕ) : Type 0 where
-  pub sources : (d : ℕ) → d < 4096 → getD table d 0 ≡ source places d
-
--- the first n numbers of one list are all of the other
-pub record FrontCopied (n : ℕ) (from to : List ℕ) : Type 0 where
-  pub numbers : (d : ℕ) → d < n → getD to d 0 ≡ getD from d 0
-  pub long : length to ≡ n
+  pub long : length table ≡ 4097
 
 -- the table with slot g as the source of slot x; behind all slots where x is 65,535
 unfoldable pub putSource : List ℕ → ℕ → ℕ → List ℕ
@@ -50,31 +47,56 @@ unfoldable pub Inside : List ℕ → ℕ → ℕ → Type 0
 Inside places zero x = x < length places
 Inside places (suc n) x = (x < length places) × Inside places n (next places x)
 
--- the marks of these slots are set, all others are as they were
-pub record Marked (slots before after : List ℕ) : Type 0 where
-  pub marks : (v : ℕ) → getD after v 0 ≡ pick (among v slots) 1 (getD before v 0)
+-- the copies of n slots after h, the last card first; where `end` is a slot, its card goes to the hand before them and from there to h after them
+unfoldable pub walked : List ℕ → ℕ → ℕ → ℕ → List Pair
+walked places h n end = pick (eqb end FREE) (shift h (steps (next places) n h)) ((end, HAND) ∷ shift h (steps (next places) n h) ++ (HAND, h) ∷ [])
+
+-- how many they are
+unfoldable pub walkCount : ℕ → ℕ → ℕ
+walkCount n end = pick (eqb end FREE) n (n + 2)
+
+-- the slot whose card goes to the hand, by the slot whose card comes to the first, and the n slots that follow: on a lone slot none
+unfoldable pub handEnd : ℕ → ℕ → ℕ
+handEnd from n = pick (eqb n 0) FREE from
+
+-- no slot has this mark
+pub record Unmarked (mark : ℕ) (seen : List ℕ) : Type 0 where
+  pub none : (v : ℕ) → getD seen v 0 ≢ mark
+  pub long : length seen ≡ 4096
+
+-- these slots have the mark, all others are as they were
+pub record Marked (mark : ℕ) (slots before after : List ℕ) : Type 0 where
+  pub marks : (v : ℕ) → getD after v 0 ≡ pick (among v slots) mark (getD before v 0)
   pub long : length after ≡ length before
 
--- h is the first slot of a factor: where a card comes there, it is on a cycle
-pub record First (places : List ℕ) (h : ℕ) : Type 0 where
-  pub low : h < length places
-  pub turns : source places h ≢ FREE → next places (last h (onward places h)) ≢ FREE
+-- the slots that are due at slot k: its factor, unless that is marked
+unfoldable pub due : List ℕ → ℕ → List ℕ → ℕ → List ℕ
+due places mark seen k = pick (eqb (getD seen k 0) mark) [] (factor places k)
 
--- the slots to be written at slot k: its factor, unless that is marked
-unfoldable pub due : List ℕ → List ℕ → ℕ → List ℕ
-due places seen k = pick (eqb (getD seen k 0) 0) (factor places k) []
+-- the walk through the factor of slot k: its first slot, how many follow, whose card goes to the hand; its slots are marked
+pub record Walked (places : List ℕ) (mark k : ℕ) (seen : List ℕ) (head left end : ℕ) (marks : List ℕ) : Type 0 where
+  pub copies-are : copies places (factor places k) ≡ walked places head left end
+  pub inside : Inside places left head
+  pub held : end ≢ FREE → end < length places
+  pub marked : Marked mark (factor places k) seen marks
 
--- the copies of a factor are written from copy `at` on, and their count is added
-pub record Written (places slots : List ℕ) (at : ℕ) (list : List ℕ) (count : ℕ) (after : List ℕ) : Type 0 where
-  pub count-is : count ≡ at + length (copies places slots)
-  pub list-is : after ≡ putCopies list at (copies places slots)
+-- the copies due at slot k are counted, its slots marked
+pub record Counted (places : List ℕ) (mark k at : ℕ) (seen : List ℕ) (count : ℕ) (marks : List ℕ) : Type 0 where
+  pub count-is : count ≡ at + length (copies places (due places mark seen k))
+  pub marked : Marked mark (due places mark seen k) seen marks
 
--- the same, and its slots are marked
-pub record Passed (places slots : List ℕ) (at : ℕ) (list seen : List ℕ) (count : ℕ) (after marks : List ℕ) : Type 0 where
-  pub written : Written places slots at list count after
-  pub marked : Marked slots seen marks
+-- the same, and they are written from copy `at` on
+pub record Written (places : List ℕ) (mark k at : ℕ) (list seen : List ℕ) (count : ℕ) (after marks : List ℕ) : Type 0 where
+  pub counted : Counted places mark k at seen count marks
+  pub list-is : after ≡ putCopies list at (copies places (due places mark seen k))
 
 -- the whole list is written from the front, and counted
 pub record AllWritten (places list : List ℕ) (count : ℕ) (after : List ℕ) : Type 0 where
   pub count-is : count ≡ length (copyList places)
   pub list-is : after ≡ putCopies list 0 (copyList places)
+
+-- the outcome where the table is accepted and nothing is away: 13, or the list and its copies
+unfoldable pub listedHere : List ℕ → List ℕ → Listed
+listedHere places lent =
+    pick (tooShort lent (flat (copyList places))) (listedOf (answer 13 noCounts) lent)
+    (listedOf (answer 0 (copiesOf (length (copyList places)))) (sets lent 0 (flat (copyList places))))

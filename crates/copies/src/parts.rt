@@ -1,13 +1,19 @@
-// What the copy list puts together, and the shuffle after it: the cards that are away, the list in the library's own array.
+// What the copy list puts together, and the shuffle after it: the cards that are away, the list in a lent one, the copies in the tally.
 ghost use mathlib.Core.Path.{_≡_};
-ghost use Prim.Native.Nat.{_<_};
+ghost use Prim.Native.Nat.{_+_, _*_, _≤_, _<_};
+ghost use Rattle.answers.specs.Answers.{plusCopies, listedOf};
 ghost use lib.ListN.{length};
 ghost use Rattle.counting.specs.Tests.{_or_};
 ghost use Rattle.copies.specs.Chains.{Chained};
 ghost use Rattle.tables.specs.Tables.{awayBy};
-ghost use Rattle.copies.specs.Writes.{someAwayBy, Sources, AllWritten};
+ghost use Rattle.copies.specs.Copies.{copyList};
+ghost use Rattle.copies.specs.Writes.{someAwayBy, putCopies, listedHere};
+use answers::Answer;
+use answers::Tally;
+use racks::Job;
 
-pub mod shifts;
+pub mod lists;
+pub mod walks;
 
 // A slot's number, as an index.
 pub fn wide(x: u16) -> usize
@@ -16,14 +22,14 @@ pub fn wide(x: u16) -> usize
     x as usize
 }
 
-// Whether the card in slot g is away, by the table of each slot's rack. A free slot is on its own rack: so there is no branch, which could
+// Whether the card in slot g is away, by the racking. A free slot is on its own rack: so there is no branch, which could
 // not be foretold where free and taken slots alternate at random.
-pub fn is_away(racks: &[u8; 4096], places: &[u16], g: usize) -> bool
+pub fn is_away(racking: &[u8; 4096], places: &[u16], g: usize) -> bool
     requires { ⌜ Chained (now places) × (g < length (now places)) ⌝ }
-    ensures { λ r. ⌜ r ≡ awayBy (now (racks .entry)) (now (places .entry)) g ⌝ }
+    ensures { λ r. ⌜ r ≡ awayBy (now (racking .entry)) (now (places .entry)) g ⌝ }
 {
     let to = tables::parts::named_slot(places[g], g);
-    racks[g] != racks[to]
+    racking[g] != racking[to]
 }
 
 // One of two tests.
@@ -37,27 +43,61 @@ fn either(a: bool, b: bool) -> bool
 }
 
 // Whether some card is away.
-pub fn some_away(racks: &[u8; 4096], places: &[u16]) -> bool
+pub fn some_away(racking: &[u8; 4096], places: &[u16]) -> bool
     requires { ⌜ Chained (now places) ⌝ }
-    ensures { λ r. ⌜ r ≡ someAwayBy (now (racks .entry)) (now (places .entry)) ⌝ }
+    ensures { λ r. ⌜ r ≡ someAwayBy (now (racking .entry)) (now (places .entry)) ⌝ }
 {
     let mut found = false;
     let mut g: usize = 0;
     while g < places.len() {
-        let away = is_away(racks, places, g);
+        let away = is_away(racking, places, g);
         found = either(found, away);
         g = g + 1;
     }
     found
 }
 
-// The copy list, from the front of `list`; how many copies it has. The sources are left for the caller.
-pub fn list_copies(places: &[u16], sources: &mut [u16; 4096], list: &mut [u16; 12288]) -> usize
-    requires { ⌜ Chained (now places) × (length (now list) ≡ 12288) ⌝ }
-    ensures copies { λ r. ⌜ AllWritten (now (places .entry)) (now (list .entry)) r (now (list .exit)) ⌝ }
-    ensures sources { λ _. ⌜ Sources (now (places .entry)) (now (sources .exit)) ⌝ }
+// So many copies more, one at a time.
+pub fn add_copies(tally: Tally, count: usize) -> Tally
+    requires { ⌜ tally .copies + count < 18446744073709551616 ⌝ }
+    ensures { λ r. ⌜ r ≡ plusCopies count tally ⌝ }
 {
-    shifts::fill_sources(places, sources);
+    let mut sum = tally;
+    let mut i: usize = 0;
+    while i < count {
+        sum = sum.add_copy();
+        i = i + 1;
+    }
+    sum
+}
+
+// The copy list, from the front of a lent list that has room for it; the tally with its copies.
+pub fn list_copies(places: &[u16], list: &mut [u16], tally: Tally) -> Tally
+    requires { ⌜ Chained (now places) × (2 * length (copyList (now places)) ≤ length (now list)) × (tally .copies ≡ 0) ⌝ }
+    ensures counts { λ r. ⌜ r ≡ plusCopies (length (copyList (now (places .entry)))) tally ⌝ }
+    ensures copies { λ _. ⌜ now (list .exit) ≡ putCopies (now (list .entry)) 0 (copyList (now (places .entry))) ⌝ }
+{
+    let mut sources = [Job::FREE; 4097];
+    walks::fill_sources(places, &mut sources);
     let mut seen = [0u8; 4096];
-    shifts::write_factors(places, sources, &mut seen, list)
+    let count = lists::write_factors(places, &sources, &mut seen, list);
+    add_copies(tally, count)
+}
+
+// The copies of an accepted table with nothing away: counted, and where the lent list has room for them, listed in it.
+pub fn list_counted(places: &[u16], lent: &mut [u16]) -> Answer
+    requires { ⌜ Chained (now places) ⌝ }
+    ensures { λ r. ⌜ listedOf r (now (lent .exit)) ≡ listedHere (now (places .entry)) (now (lent .entry)) ⌝ }
+{
+    let mut sources = [Job::FREE; 4097];
+    walks::fill_sources(places, &mut sources);
+    let mut seen = [0u8; 4096];
+    let count = lists::count_factors(places, &sources, &mut seen);
+    if lent.len() < 2 * count {
+        return Answer::of(13);
+    }
+    let written = lists::write_factors(places, &sources, &mut seen, lent);
+    let tally = Tally::none();
+    let counted = add_copies(tally, written);
+    Answer::done(counted)
 }

@@ -1,19 +1,12 @@
-use Rattle.copies.proofs.Accepted.{accepted, away-known}
-use Rattle.copies.proofs.Copied.{front-flat, copied-table, copied-away, copied-short, copied-done}
-use Rattle.copies.proofs.Writing.{length-put-copies}
-use Rattle.copies.proofs.Costs.{list-most}
-use Rattle.copies.specs.Chains.{Chained}
-use Rattle.answers.specs.Answers.{answer, listedOf}
-use Rattle.tables.proofs.Tables.{of-sound, of-number}
-use Rattle.racks.specs.Numbers.{tableChecks, someAway}
-use Rattle.racks.specs.Racks.{ofCaps}
+use mathlib.Core.Path.{_≡_, sym, ap, _∙_}
 use Rattle.counting.specs.Checks.{first}
-use native.Mathlib.Omega.{arith}
-use mathlib.Core.Bool.{false}
-use lib.Seq.{sets}
-use lib.ListN.{length}
-use Prim.Native.Nat.{_*_, _≤_}
-use mathlib.Core.Path.{_≡_, refl, sym, ap, _∙_}
+use Rattle.racks.specs.Racks.{ofCaps}
+use Rattle.racks.specs.Numbers.{tableChecks, someAway}
+use Rattle.tables.proofs.Tables.{of-sound, of-number}
+use Rattle.answers.specs.Answers.{listedOf}
+use Rattle.copies.specs.Chains.{Chained}
+use Rattle.copies.proofs.Copied.{copied-table, copied-away, copied-home}
+use Rattle.copies.proofs.Accepted.{accepted, away-known}
 use borrow.Author.Needs.{needs}
 use Rattle.copies.proofs.copy_list.Statement.{statement}
 use Rattle.copies.proofs.copy_list.Tie as tie
@@ -39,17 +32,6 @@ away c =
     let e = c .before .before in
     let s = c .before .before .before .before .before .before .before .before .before in
     c .some-away .ensures ∙ away-known (s .args .caps .now) (s .args .places .now) _ (e .before .before .before .of .ensures) (clear e) _ (e .before .table-number .ensures .filled (e .if1 .left))
-
--- the copies are listed
-module _ (c : tie.After-list-copies) where
-  home : someAway (ofCaps (c .before .before .before .before .before .before .before .before .before .before .before .before .before .args .caps .now)) (c .before .before .before .before .before .before .before .before .before .before .before .before .before .args .places .now) ≡ false
-  home = sym (away (c .before .before .before .before)) ∙ c .before .before .before .if2 .left
-
-  most : 2 * c .list-copies .result ≤ 12288
-  most = let k = chains (c .before .before .before .before .before .before) in omega (arith, list-most k, k .small, c .list-copies .ensures .0 .count-is)
-
-  long : length (c .list-copies .last .1 .1 .0) ≡ 12288
-  long = ap length (c .list-copies .ensures .0 .list-is) ∙ length-put-copies _ _ _
 
 of-requires : tie.Need-of-requires
 of-requires c κs = search needs
@@ -77,47 +59,17 @@ returns-2 c =
     ap (λ a. listedOf a (s .args .lent .now)) (c .of3 .ensures)
     ∙ copied-away (ofCaps (s .args .caps .now)) (s .args .places .now) (s .args .lent .now) (clear (c .before .before .before .before)) (sym (away (c .before .before)) ∙ c .before .if2 .taken)
 
-list-copies-requires : tie.Need-list-copies-requires
-list-copies-requires c κs = (chains (c .before .before .before .before .before), refl)
-
-mul-if3 : tie.Need-mul-if3
-mul-if3 c = omega (arith, most c)
-
-of-requires-4 : tie.Need-of-requires-4
-of-requires-4 c κs = search needs
-
-returns-3 : tie.Need-returns-3
-returns-3 c =
-    let s = c .before .before .before .before .before .before .before .before .before .before .before .before .before .before .before in
-    let l = c .before .before in
-    ap (λ a. listedOf a (s .args .lent .now)) (c .of4 .ensures)
-    ∙ copied-short (ofCaps (s .args .caps .now)) (s .args .places .now) (s .args .lent .now) (clear (l .before .before .before .before .before .before)) (home l) _ (l .list-copies .ensures .0 .count-is) (c .before .if3 .taken)
-
-slice-aggregate-copy-front : tie.Need-slice-aggregate-copy-front
-slice-aggregate-copy-front c = sym (long (c .before .before .before))
-
-mul-copy-front : tie.Need-mul-copy-front
-mul-copy-front c = search needs
-
-copy-front-requires : tie.Need-copy-front-requires
-copy-front-requires c κs = (c .before .before .if3 .left, omega (arith, most (c .before .before .before), long (c .before .before .before)))
-
-of-copies-requires : tie.Need-of-copies-requires
-of-copies-requires c κs = search needs
-
-done-requires : tie.Need-done-requires
-done-requires c κs = search needs
+list-counted-requires : tie.Need-list-counted-requires
+list-counted-requires c κs = chains (c .before .before .before .before)
 
 same-length : tie.Need-same-length
 same-length c = search needs
 
-returns-4 : tie.Need-returns-4
-returns-4 c =
-    let s = c .before .before .before .before .before .before .before .before .before .before .before .before .before .before .before .before .before .before .before .before .before in
-    let l = c .before .before .before .before .before .before .before .before in
-    copied-done (ofCaps (s .args .caps .now)) (s .args .places .now) (s .args .lent .now) (clear (l .before .before .before .before .before .before)) (home l) _ (l .list-copies .ensures .0 .count-is) (c .before .before .before .before .before .before .before .if3 .left) _ _
-    (c .done .ensures ∙ ap (answer 0) (c .before .of-copies .ensures))
-    (c .before .before .before .before .copy-front .ensures ∙ ap (sets (s .args .lent .now) 0) (front-flat (s .args .places .now) _ _ _ _ (l .list-copies .ensures .0) refl (omega (arith, most l))))
+returns-3 : tie.Need-returns-3
+returns-3 c =
+    let s = c .before .before .before .before .before .before .before .before .before .before .before .before .before .before in
+    let home = sym (away (c .before .before .before .before .before)) ∙ c .before .before .before .before .if2 .left in
+    c .before .before .list-counted .ensures ∙ copied-home (ofCaps (s .args .caps .now)) (s .args .places .now) (s .args .lent .now) (clear (c .before .before .before .before .before .before .before)) home
 
 pub copy-list-spec : {M : Type 1} → statement M
 copy-list-spec =
@@ -130,14 +82,6 @@ copy-list-spec =
     some-away-requires
     of-requires-3
     returns-2
-    list-copies-requires
-    mul-if3
-    of-requires-4
-    returns-3
-    slice-aggregate-copy-front
-    mul-copy-front
-    copy-front-requires
-    of-copies-requires
-    done-requires
+    list-counted-requires
     same-length
-    returns-4)
+    returns-3)

@@ -1,7 +1,7 @@
 use borrow.Author.Needs.{needs}
 use Rattle.copies.proofs.Sourced.{put-source-is}
-use Rattle.copies.proofs.parts.shifts.put_source.Statement.{statement}
-use Rattle.copies.proofs.parts.shifts.put_source.Tie as tie
+use Rattle.copies.proofs.parts.walks.put_source.Statement.{statement}
+use Rattle.copies.proofs.parts.walks.put_source.Tie as tie
 
 named-slot-requires : tie.Need-named-slot-requires
 named-slot-requires c κs = search needs

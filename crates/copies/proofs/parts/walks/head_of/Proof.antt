@@ -6,8 +6,8 @@ use lib.ListN.{length}
 use Prim.Native.Nat.{_<_, _-_}
 use native.Mathlib.Omega.{arith}
 use borrow.Author.Needs.{needs}
-use Rattle.copies.proofs.parts.shifts.head_of.Statement.{statement}
-use Rattle.copies.proofs.parts.shifts.head_of.Tie as tie
+use Rattle.copies.proofs.parts.walks.head_of.Statement.{statement}
+use Rattle.copies.proofs.parts.walks.head_of.Tie as tie
 
 abbrev Inv-loop : tie.InvT-loop
 Inv-loop places sources k x₀ n₀ x n = (x < length places) × Walking (source places) k (length places) n x

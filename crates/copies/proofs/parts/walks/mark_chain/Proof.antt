@@ -7,20 +7,20 @@ use lib.ListN.{length, length-set}
 use Prim.Native.Nat.{_<_, _-_}
 use native.Mathlib.Omega.{arith}
 use borrow.Author.Needs.{needs}
-use Rattle.copies.proofs.parts.shifts.mark_chain.Statement.{statement}
-use Rattle.copies.proofs.parts.shifts.mark_chain.Tie as tie
+use Rattle.copies.proofs.parts.walks.mark_chain.Statement.{statement}
+use Rattle.copies.proofs.parts.walks.mark_chain.Tie as tie
 
 abbrev Inv-loop : tie.InvT-loop
-Inv-loop places seen₀ h x₀ n₀ seen x n = (x < length places) × (length seen ≡ 4096) × Marking places h n x seen₀ seen
+Inv-loop places seen₀ mark h x₀ n₀ seen x n = (x < length places) × (length seen ≡ 4096) × Marking mark places h n x seen₀ seen
 
 abbrev μ-loop : tie.MeasureT-loop
-μ-loop places seen₀ h x₀ n₀ seen x n = length places - n
+μ-loop places seen₀ mark h x₀ n₀ seen x n = length places - n
 
 element-write-seen : tie.Need-element-write-seen Inv-loop μ-loop
 element-write-seen c = omega (arith, c .before .pre .0 .small)
 
 loop-holds : tie.Need-loop-holds Inv-loop μ-loop
-loop-holds c = (c .before .pre .1, simp length-set (c .before .pre .2), marking-begin _ _ _)
+loop-holds c = (c .before .pre .1, simp length-set (c .before .pre .2), marking-begin _ _ _ _)
 
 mul-y : tie.Need-mul-y Inv-loop μ-loop
 mul-y c = omega (arith, c .before .before .before .pre .0 .small)
@@ -32,7 +32,7 @@ returns : tie.Need-returns Inv-loop μ-loop
 returns c =
     let l = c .before .before .before in
     let s = l .before .before in
-    marking-stop (s .args .places .now) (s .args .h) (l .loop .n) (l .loop .x) (s .args .seen .now) (l .loop .seen) (omega (arith, s .pre .1, s .pre .0 .small)) (l .loop .inv .2)
+    marking-stop (s .args .mark) (s .args .places .now) (s .args .h) (l .loop .n) (l .loop .x) (s .args .seen .now) (l .loop .seen) (omega (arith, s .pre .1, s .pre .0 .small)) (l .loop .inv .2)
     (inl (next-is (s .args .places .now) (l .loop .x) (l .loop .inv .0) ∙ c .if1 .taken))
 
 wide-requires : tie.Need-wide-requires Inv-loop μ-loop
@@ -42,7 +42,7 @@ returns-2 : tie.Need-returns-2 Inv-loop μ-loop
 returns-2 c =
     let l = c .before .before .before .before .before in
     let s = l .before .before in
-    marking-stop (s .args .places .now) (s .args .h) (l .loop .n) (l .loop .x) (s .args .seen .now) (l .loop .seen) (omega (arith, s .pre .1, s .pre .0 .small)) (l .loop .inv .2)
+    marking-stop (s .args .mark) (s .args .places .now) (s .args .h) (l .loop .n) (l .loop .x) (s .args .seen .now) (l .loop .seen) (omega (arith, s .pre .1, s .pre .0 .small)) (l .loop .inv .2)
     (inr (next-is (s .args .places .now) (l .loop .x) (l .loop .inv .0) ∙ sym (c .before .wide .ensures) ∙ c .if2 .taken))
 
 -- the slot that is marked next
@@ -74,14 +74,14 @@ loop-again c =
     let places = s .args .places .now in (
       to-low c,
       simp length-set (l .loop .inv .1),
-      marking-more places (s .args .h) (l .loop .n) (l .loop .x) _ (l .loop .seen) (l .loop .inv .2) (w .result) (omega arith) (to-is c)
+      marking-more (s .args .mark) places (s .args .h) (l .loop .n) (l .loop .x) _ (l .loop .seen) (l .loop .inv .2) (w .result) (omega arith) (to-is c)
           (λ u. c .before .before .if1 .left (sym (w .ensures) ∙ u)) (c .if2 .left) (omega (arith, to-low c, s .pre .0 .small, l .loop .inv .1)),
     )
 
 returns-3 : tie.Need-returns-3 Inv-loop μ-loop
 returns-3 c =
     let s = c .before .before .before in
-    marking-out (s .args .places .now) (s .args .h) (c .before .loop .n) (c .before .loop .x) (s .args .seen .now) (c .before .loop .seen) (omega (arith, s .pre .1, s .pre .0 .small)) (c .before .loop .inv .2) (omega arith)
+    marking-out (s .args .mark) (s .args .places .now) (s .args .h) (c .before .loop .n) (c .before .loop .x) (s .args .seen .now) (c .before .loop .seen) (omega (arith, s .pre .1, s .pre .0 .small)) (c .before .loop .inv .2) (omega arith)
 
 pub mark-chain-spec : {M : Type 1} → statement M
 mark-chain-spec =

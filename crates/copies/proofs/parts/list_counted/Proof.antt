@@ -1,0 +1,65 @@
+use Rattle.copies.proofs.Copied.{here-short, here-done}
+use Rattle.copies.proofs.Progress.{few-copies}
+use Rattle.answers.specs.declared.Tally.{Tally}
+use Rattle.answers.specs.Answers.{plusCopies, listedOf}
+use mathlib.Core.Path.{ap, _∙_}
+use native.Mathlib.Omega.{arith}
+use borrow.Author.Needs.{needs}
+use Rattle.copies.proofs.parts.list_counted.Statement.{statement}
+use Rattle.copies.proofs.parts.list_counted.Tie as tie
+
+fill-sources-requires : tie.Need-fill-sources-requires
+fill-sources-requires c κs = search needs
+
+count-factors-requires : tie.Need-count-factors-requires
+count-factors-requires c κs = search needs
+
+mul-if1 : tie.Need-mul-if1
+mul-if1 c = omega (arith, c .count-factors .ensures .0, few-copies (c .before .before .before .before .before .before .before .pre))
+
+of-requires : tie.Need-of-requires
+of-requires c κs = search needs
+
+returns : tie.Need-returns
+returns c =
+    let s = c .before .before .before .before .before .before .before .before .before in
+    ap (λ a. listedOf a (s .args .lent .now)) (c .of .ensures) ∙ here-short (s .args .places .now) (s .args .lent .now) _ (c .before .before .count-factors .ensures .0) (c .before .if1 .taken)
+
+write-factors-requires : tie.Need-write-factors-requires
+write-factors-requires c κs = search needs
+
+none-requires : tie.Need-none-requires
+none-requires c κs = search needs
+
+add-copies-requires : tie.Need-add-copies-requires
+add-copies-requires c κs =
+    let w = c .before .before .before .write-factors .ensures in
+    omega (arith, w .count-is, few-copies (c .before .before .before .before .before .before .before .before .before .before .before .before .before .before .before .pre), ap (λ (t : Tally). t .copies) (c .none .ensures))
+
+done-requires : tie.Need-done-requires
+done-requires c κs = search needs
+
+same-length : tie.Need-same-length
+same-length c = search needs
+
+returns-2 : tie.Need-returns-2
+returns-2 c =
+    let s = c .before .before .before .before .before .before .before .before .before .before .before .before .before .before .before .before .before in
+    let a = c .before .add-copies .ensures ∙ ap (plusCopies _) (c .before .before .none .ensures) in
+    here-done (s .args .places .now) (s .args .lent .now) _ (c .before .before .before .before .before .before .before .before .before .before .count-factors .ensures .0) (c .before .before .before .before .before .before .before .before .before .if1 .left) _ _ _ _ (c .done .ensures) a (c .before .before .before .before .before .write-factors .ensures)
+
+pub list-counted-spec : {M : Type 1} → statement M
+list-counted-spec =
+    tie.close
+    (tie.spec
+    fill-sources-requires
+    count-factors-requires
+    mul-if1
+    of-requires
+    returns
+    write-factors-requires
+    none-requires
+    add-copies-requires
+    done-requires
+    same-length
+    returns-2)

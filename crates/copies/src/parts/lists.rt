@@ -1,0 +1,141 @@
+// The copy list: its copies counted, and written into a lent list.
+ghost use mathlib.Core.Path.{_≡_};
+ghost use mathlib.Core.List.{[], _∷_};
+ghost use Prim.Native.Nat.{_+_, _*_, _≤_, _<_};
+ghost use lib.ListN.{length, replicate};
+ghost use Rattle.copies.specs.Copies.{next, shift, copies, copyList};
+ghost use Rattle.copies.specs.Chains.{Chained};
+ghost use Rattle.copies.specs.Writes.{Sources, putCopies, steps, Inside, walked, walkCount, Unmarked, due, Counted, Written, AllWritten};
+use crate::parts;
+use crate::parts::walks;
+use racks::Job;
+
+// How many copies a factor has: one for each slot after the first, and two more by the hand.
+pub fn count_walk(left: usize, end: u16) -> usize
+    requires { ⌜ left ≤ 6144 ⌝ }
+    ensures { λ r. ⌜ r ≡ walkCount left end ⌝ }
+{
+    if end == Job::FREE {
+        return left;
+    }
+    left + 2
+}
+
+// The copies of the factor of slot k are counted, unless it is marked.
+pub fn count_slot(
+    places: &[u16],
+    sources: &[u16; 4097],
+    seen: &mut [u8; 4096],
+    k: usize,
+    at: usize,
+) -> usize
+    requires { ⌜ Chained (now places) × Sources (now places) (now sources) × (k < length (now places)) × (length (now seen) ≡ 4096) × (at + length (copies (now places) (due (now places) 1 (now seen) k)) ≤ 6144) ⌝ }
+    ensures { λ r. ⌜ Counted (now (places .entry)) 1 k at (now (seen .entry)) r (now (seen .exit)) ⌝ }
+{
+    if seen[k] == 1 {
+        return at;
+    }
+    let w = walks::walk_factor(places, sources, seen, 1, k);
+    let count = count_walk(w.left, w.end);
+    at + count
+}
+
+// How many copies the list has. The marks that are left do not hinder its writing.
+pub fn count_factors(places: &[u16], sources: &[u16; 4097], seen: &mut [u8; 4096]) -> usize
+    requires { ⌜ Chained (now places) × Sources (now places) (now sources) × (now seen ≡ replicate 4096 0) ⌝ }
+    ensures count { λ r. ⌜ r ≡ length (copyList (now (places .entry))) ⌝ }
+    ensures marks { λ _. ⌜ Unmarked 2 (now (seen .exit)) ⌝ }
+{
+    let mut at: usize = 0;
+    let mut k: usize = 0;
+    while k < places.len() {
+        at = count_slot(places, sources, seen, k, at);
+        k = k + 1;
+    }
+    at
+}
+
+// Copy number `at` of the list: from, and then to.
+pub fn put_copy(list: &mut [u16], at: usize, from: u16, to: u16)
+    requires { ⌜ (at < 6144) × (2 * at + 2 ≤ length (now list)) ⌝ }
+    ensures { λ _. ⌜ now (list .exit) ≡ putCopies (now (list .entry)) at ((from, to) ∷ []) ⌝ }
+{
+    list[2 * at] = from;
+    list[2 * at + 1] = to;
+}
+
+// The copies of the chain of slot x and the `left` slots after it, the last card first; how many copies the list has then. The table is
+// lent as a reference to a slice, which is one register for each level of the recursion.
+pub fn write_shift(places: &&[u16], list: &mut [u16], x: usize, left: usize, at: usize) -> usize
+    requires { ⌜ Inside (now (now places)) left x × (length (now (now places)) ≤ 4096) × (at + left ≤ 6144) × (2 * (at + left) ≤ length (now list)) ⌝ }
+    ensures count { λ r. ⌜ r ≡ at + left ⌝ }
+    ensures copies { λ _. ⌜ now (list .exit) ≡ putCopies (now (list .entry)) at (shift x (steps (next (now (now (places .entry)))) left x)) ⌝ }
+{
+    if left == 0 {
+        return at;
+    }
+    let y = places[x];
+    let e = write_shift(places, list, parts::wide(y), left - 1, at);
+    put_copy(list, e, x as u16, y);
+    e + 1
+}
+
+// The copies of a factor: of a shift, or by the hand.
+pub fn write_walk(
+    places: &[u16],
+    list: &mut [u16],
+    head: usize,
+    left: usize,
+    end: u16,
+    at: usize,
+) -> usize
+    requires { ⌜ Inside (now places) left head × (length (now places) ≤ 4096) × (at + walkCount left end ≤ 6144) × (2 * (at + walkCount left end) ≤ length (now list)) ⌝ }
+    ensures count { λ r. ⌜ r ≡ at + walkCount left end ⌝ }
+    ensures copies { λ _. ⌜ now (list .exit) ≡ putCopies (now (list .entry)) at (walked (now (places .entry)) head left end) ⌝ }
+{
+    if end == Job::FREE {
+        return write_shift(&places, list, head, left, at);
+    }
+    put_copy(list, at, end, Job::HAND);
+    let e = write_shift(&places, list, head, left, at + 1);
+    put_copy(list, e, Job::HAND, head as u16);
+    e + 1
+}
+
+// The copies of the factor of slot k are written, unless it is marked.
+pub fn write_slot(
+    places: &[u16],
+    sources: &[u16; 4097],
+    seen: &mut [u8; 4096],
+    list: &mut [u16],
+    k: usize,
+    at: usize,
+) -> usize
+    requires { ⌜ Chained (now places) × Sources (now places) (now sources) × (k < length (now places)) × (length (now seen) ≡ 4096) × (at + length (copies (now places) (due (now places) 2 (now seen) k)) ≤ 6144) × (2 * (at + length (copies (now places) (due (now places) 2 (now seen) k))) ≤ length (now list)) ⌝ }
+    ensures { λ r. ⌜ Written (now (places .entry)) 2 k at (now (list .entry)) (now (seen .entry)) r (now (list .exit)) (now (seen .exit)) ⌝ }
+{
+    if seen[k] == 2 {
+        return at;
+    }
+    let w = walks::walk_factor(places, sources, seen, 2, k);
+    write_walk(places, list, w.head, w.left, w.end, at)
+}
+
+// The copies of every factor, by its lowest slot, from the front of the lent list; how many there are.
+pub fn write_factors(
+    places: &[u16],
+    sources: &[u16; 4097],
+    seen: &mut [u8; 4096],
+    list: &mut [u16],
+) -> usize
+    requires { ⌜ Chained (now places) × Sources (now places) (now sources) × Unmarked 2 (now seen) × (2 * length (copyList (now places)) ≤ length (now list)) ⌝ }
+    ensures { λ r. ⌜ AllWritten (now (places .entry)) (now (list .entry)) r (now (list .exit)) ⌝ }
+{
+    let mut at: usize = 0;
+    let mut k: usize = 0;
+    while k < places.len() {
+        at = write_slot(places, sources, seen, list, k, at);
+        k = k + 1;
+    }
+    at
+}

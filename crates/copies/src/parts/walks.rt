@@ -1,0 +1,114 @@
+// The chains of a table, for the copy list and for the shuffle: its inverse, and the walk through the factor of a slot.
+ghost use mathlib.Core.Path.{_≡_};
+ghost use mathlib.Core.List.{_∷_};
+ghost use Prim.Native.Nat.{_<_};
+ghost use lib.ListN.{length};
+ghost use Rattle.tables.specs.Tables.{namedSlot};
+ghost use Rattle.copies.specs.Copies.{onward, head};
+ghost use Rattle.copies.specs.Chains.{Chained};
+ghost use Rattle.copies.specs.Writes.{noSources, Sources, putSource, Marked, handEnd, Walked};
+use crate::parts;
+use racks::Job;
+
+// A factor: its first slot, how many slots follow, and on a cycle of two slots or more the slot whose card goes to the hand, else 65,535.
+pub struct Walk {
+    pub head: usize,
+    pub left: usize,
+    pub end: u16,
+}
+
+// One entry of the inverse: the card in slot g is bound for slot x. Of a free slot it is stored behind all slots, where nothing is read: so
+// there is no branch, which could not be foretold where free and taken slots alternate at random.
+pub fn put_source(sources: &mut [u16; 4097], x: u16, g: usize)
+    requires { ⌜ (length (now sources) ≡ 4097) × (g < 4096) × (namedSlot 4096 x < 4097) ⌝ }
+    ensures { λ _. ⌜ now (sources .exit) ≡ putSource (now (sources .entry)) x g ⌝ }
+{
+    let to = tables::parts::named_slot(x, 4096);
+    sources[to] = g as u16;
+}
+
+// The inverse of the table, for each slot the slot whose card is bound for it, in one pass over a table as it was made.
+pub fn fill_sources(places: &[u16], sources: &mut [u16; 4097])
+    requires { ⌜ Chained (now places) × (now sources ≡ noSources) ⌝ }
+    ensures { λ _. ⌜ Sources (now (places .entry)) (now (sources .exit)) ⌝ }
+{
+    let mut g: usize = 0;
+    while g < places.len() {
+        put_source(sources, places[g], g);
+        g = g + 1;
+    }
+}
+
+// The first slot of the factor of slot k: where the way back ends, or k itself on a cycle.
+pub fn head_of(places: &[u16], sources: &[u16; 4097], k: usize) -> usize
+    requires { ⌜ Chained (now places) × Sources (now places) (now sources) × (k < length (now places)) ⌝ }
+    ensures { λ r. ⌜ r ≡ head (now (places .entry)) k ⌝ }
+{
+    let mut x = k;
+    let mut n: usize = 0;
+    while n < places.len() {
+        let y = sources[x];
+        if y == Job::FREE {
+            return x;
+        }
+        let from = parts::wide(y);
+        if from == k {
+            return k;
+        }
+        x = from;
+        n = n + 1;
+    }
+    x
+}
+
+// Marks slot h and the slots that follow it; how many follow.
+pub fn mark_chain(places: &[u16], seen: &mut [u8; 4096], mark: u8, h: usize) -> usize
+    requires { ⌜ Chained (now places) × (h < length (now places)) × (length (now seen) ≡ 4096) ⌝ }
+    ensures count { λ r. ⌜ r ≡ length (onward (now (places .entry)) h) ⌝ }
+    ensures marks { λ _. ⌜ Marked mark (h ∷ onward (now (places .entry)) h) (now (seen .entry)) (now (seen .exit)) ⌝ }
+{
+    seen[h] = mark;
+    let mut x = h;
+    let mut n: usize = 0;
+    while n < places.len() {
+        let y = places[x];
+        if y == Job::FREE {
+            return n;
+        }
+        let to = parts::wide(y);
+        if to == h {
+            return n;
+        }
+        seen[to] = mark;
+        x = to;
+        n = n + 1;
+    }
+    n
+}
+
+// Whose card goes to the hand, where `from` is the slot whose card comes to the first and n slots follow that: nobody's on a lone slot.
+pub fn hand_end(from: u16, n: usize) -> u16
+    ensures { λ r. ⌜ r ≡ handEnd from n ⌝ }
+{
+    if n == 0 {
+        return Job::FREE;
+    }
+    from
+}
+
+// The walk through the factor of slot k, which is marked.
+pub fn walk_factor(
+    places: &[u16],
+    sources: &[u16; 4097],
+    seen: &mut [u8; 4096],
+    mark: u8,
+    k: usize,
+) -> Walk
+    requires { ⌜ Chained (now places) × Sources (now places) (now sources) × (k < length (now places)) × (length (now seen) ≡ 4096) ⌝ }
+    ensures { λ r. ⌜ Walked (now (places .entry)) mark k (now (seen .entry)) (r .head) (r .left) (r .end) (now (seen .exit)) ⌝ }
+{
+    let head = head_of(places, sources, k);
+    let left = mark_chain(places, seen, mark, head);
+    let end = hand_end(sources[head], left);
+    Walk { head, left, end }
+}
