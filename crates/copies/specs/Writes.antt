@@ -9,11 +9,14 @@ use lib.ListN.{length, getD, set, replicate}
 use lib.Seq.{sets}
 use Rattle.counting.specs.Tests.{pick}
 use Rattle.counting.specs.Count.{some}
+use Rattle.counting.specs.Checks.{first, refusal}
 use Rattle.counting.specs.Lists.{Pair, flat, among}
 use Rattle.racks.specs.Limits.{FREE, HAND}
-use Rattle.racks.specs.Numbers.{tooShort}
-use Rattle.answers.specs.Answers.{answer, noCounts, copiesOf, Listed, listedOf}
-use Rattle.tables.specs.Tables.{namedSlot, awayBy}
+use Rattle.racks.specs.Numbers.{someAway, tooShort}
+use Rattle.racks.specs.Job.{racksOf}
+use Rattle.racks.specs.declared.Job.{Job}
+use Rattle.answers.specs.Answers.{copiesOf, Listed, listed}
+use Rattle.tables.specs.Tables.{namedSlot, awayBy, tableNumber}
 use Rattle.copies.specs.Copies.{next, source, shift, factor, copies, copyList}
 
 -- a card is away, by a table of each slot's rack
@@ -97,6 +100,12 @@ pub record AllWritten (places list : List ℕ) (count : ℕ) (after : List ℕ) 
 
 -- the outcome where the table is accepted and nothing is away: 13, or the list and its copies
 unfoldable pub listedHere : List ℕ → List ℕ → Listed
-listedHere places lent =
-    pick (tooShort lent (flat (copyList places))) (listedOf (answer 13 noCounts) lent)
-    (listedOf (answer 0 (copiesOf (length (copyList places)))) (sets lent 0 (flat (copyList places))))
+listedHere places lent = listed (first ((tooShort lent (flat (copyList places)), 13) ∷ [])) (copiesOf (length (copyList places))) (flat (copyList places)) lent
+
+-- the number of the copy list, by a job: that of the table, then 12 and 13
+unfoldable pub copyNumber : Job → List ℕ → List ℕ → ℕ
+copyNumber job places lent = first (refusal (tableNumber job places) ∷ (someAway (racksOf job) places, 12) ∷ (tooShort lent (flat (copyList places)), 13) ∷ [])
+
+-- the copy list, by a job
+unfoldable pub copiedBy : Job → List ℕ → List ℕ → Listed
+copiedBy job places lent = listed (copyNumber job places lent) (copiesOf (length (copyList places))) (flat (copyList places)) lent

@@ -13,13 +13,5 @@ pub fn copy_list(caps: &[u16], places: &[u16], lent: &mut [u16]) -> Answer
     ensures { λ r. ⌜ listedOf r (now (lent .exit)) ≡ copied (ofCaps (now (caps .entry))) (now (places .entry)) (now (lent .entry)) ⌝ }
 {
     let job = Job::of(caps);
-    let mut racking = [0u8; 4096];
-    let number = tables::parts::table_number(job, places, &mut racking);
-    if number != 0 {
-        return Answer::of(number);
-    }
-    if parts::some_away(&racking, places) {
-        return Answer::of(12);
-    }
-    parts::list_counted(places, lent)
+    parts::copy_job(job, places, lent)
 }

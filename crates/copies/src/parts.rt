@@ -5,9 +5,10 @@ ghost use Rattle.answers.specs.Answers.{plusCopies, listedOf};
 ghost use lib.ListN.{length};
 ghost use Rattle.counting.specs.Tests.{_or_};
 ghost use Rattle.copies.specs.Chains.{Chained};
+ghost use Rattle.racks.specs.Job.{Fit};
 ghost use Rattle.tables.specs.Tables.{awayBy};
 ghost use Rattle.copies.specs.Copies.{copyList};
-ghost use Rattle.copies.specs.Writes.{someAwayBy, putCopies, listedHere};
+ghost use Rattle.copies.specs.Writes.{someAwayBy, putCopies, listedHere, copiedBy};
 use answers::Answer;
 use answers::Tally;
 use racks::Job;
@@ -100,4 +101,20 @@ pub fn list_counted(places: &[u16], lent: &mut [u16]) -> Answer
     let tally = Tally::none();
     let counted = add_copies(tally, written);
     Answer::done(counted)
+}
+
+// The copy list, by the job.
+pub fn copy_job(job: Job, places: &[u16], lent: &mut [u16]) -> Answer
+    requires { ⌜ Fit job ⌝ }
+    ensures { λ r. ⌜ listedOf r (now (lent .exit)) ≡ copiedBy job (now (places .entry)) (now (lent .entry)) ⌝ }
+{
+    let mut racking = [0u8; Job::MAX_SLOTS];
+    let number = tables::parts::table_number(job, places, &mut racking);
+    if number != 0 {
+        return Answer::of(number);
+    }
+    if some_away(&racking, places) {
+        return Answer::of(12);
+    }
+    list_counted(places, lent)
 }

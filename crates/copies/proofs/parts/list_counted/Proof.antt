@@ -1,7 +1,7 @@
 use Rattle.copies.proofs.Copied.{here-short, here-done}
 use Rattle.copies.proofs.Progress.{few-copies}
 use Rattle.answers.specs.declared.Tally.{Tally}
-use Rattle.answers.specs.Answers.{plusCopies, listedOf}
+use Rattle.answers.specs.Answers.{plusCopies}
 use mathlib.Core.Path.{ap, _∙_}
 use native.Mathlib.Omega.{arith}
 use borrow.Author.Needs.{needs}
@@ -23,7 +23,7 @@ of-requires c κs = search needs
 returns : tie.Need-returns
 returns c =
     let s = c .before .before .before .before .before .before .before .before .before in
-    ap (λ a. listedOf a (s .args .lent .now)) (c .of .ensures) ∙ here-short (s .args .places .now) (s .args .lent .now) _ (c .before .before .count-factors .ensures .0) (c .before .if1 .taken)
+    here-short (s .args .places .now) (s .args .lent .now) _ (c .before .before .count-factors .ensures .0) (c .before .if1 .taken) _ (c .of .ensures)
 
 write-factors-requires : tie.Need-write-factors-requires
 write-factors-requires c κs = search needs
