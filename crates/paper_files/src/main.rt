@@ -1,0 +1,96 @@
+// Paper cards for the reader: case 8, case 1, refusals, and a job behind numbers that were read.
+use jobreader::Reader;
+
+mod say;
+
+// The job at the reader's place.
+fn say_job_at<'a>(r: Reader<'a>, caps: &mut [u16], places: &mut [u16]) {
+    let job = jobreader::read_job(r, caps, places);
+    say::say_job(job.answer, job.racks, job.bytes, job.slots, job.cards);
+}
+
+// The job from the start of a file.
+fn say_from_start(file: &[u8], caps: &mut [u16], places: &mut [u16]) {
+    say_job_at(jobreader::new(file), caps, places);
+}
+
+// Two numbers of a file, one after another, and the job behind them.
+fn say_behind_two(file: &[u8], caps: &mut [u16], places: &mut [u16]) {
+    let mut r = jobreader::new(file);
+    let first = jobreader::next(&mut r);
+    let second = jobreader::next(&mut r);
+    say::say_numbers(first, second);
+    say_job_at(r, caps, places);
+}
+
+fn say_lists(caps: &[u16], places: &[u16]) {
+    say::say_list(b" capacities", caps);
+    say::say_list(b" places", places);
+    io::write_all(1, b"\n");
+}
+
+// A file from its start, with room for 4 racks and 10 slots.
+fn start(name: &[u8], file: &[u8]) {
+    let mut caps = [7u16; 4];
+    let mut places = [7u16; 10];
+    io::write_all(1, name);
+    say_from_start(file, &mut caps, &mut places);
+    say_lists(&caps, &places);
+}
+
+// Two numbers of a file, and what lies behind them as a job, with the same room.
+fn behind(name: &[u8], file: &[u8]) {
+    let mut caps = [7u16; 4];
+    let mut places = [7u16; 10];
+    io::write_all(1, name);
+    say_behind_two(file, &mut caps, &mut places);
+    say_lists(&caps, &places);
+}
+
+// The numbers of case 8, each followed by the end of the file, and one after another.
+fn case_8() {
+    behind(b"80 01: ", b"\x80\x01");
+    behind(b"80 80 01: ", b"\x80\x80\x01");
+    behind(b"80 00: ", b"\x80\x00");
+    behind(b"80 alone: ", b"\x80");
+    behind(b"80 80 80: ", b"\x80\x80\x80");
+    behind(b"80 01 and 80 80 01: ", b"\x80\x01\x80\x80\x01");
+}
+
+// Case 1 from the start of its file, behind two numbers, and with its first two numbers read.
+fn case_1() {
+    start(
+        b"case 1: ",
+        b"\x03\x01\x02\x02\x01\x04\x05\x00\x01\x07\x00\x02\x00\x41\x42\x00\x43\x44\x00\x45\x00",
+    );
+    behind(
+        b"case 1 behind 80 01 and 80 80 01: ",
+        b"\x80\x01\x80\x80\x01\x03\x01\x02\x02\x01\x04\x05\x00\x01\x07\x00\x02\x00\x41\x42\x00\x43\x44\x00\x45\x00",
+    );
+    behind(
+        b"case 1 from its third number on: ",
+        b"\x03\x01\x02\x02\x01\x04\x05\x00\x01\x07\x00\x02\x00\x41\x42\x00\x43\x44\x00\x45\x00",
+    );
+}
+
+// Case 1 with a byte left over and with two entries that name one slot, and more slots than there is room for.
+fn refusals() {
+    start(
+        b"case 1, a byte left over: ",
+        b"\x03\x01\x02\x02\x01\x04\x05\x00\x01\x07\x00\x02\x00\x41\x42\x00\x43\x44\x00\x45\x00\x00",
+    );
+    start(
+        b"case 1, slot 3 named twice: ",
+        b"\x03\x01\x02\x02\x01\x04\x04\x00\x01\x07\x00\x02\x00\x41\x42\x00\x43\x44\x00\x45\x00",
+    );
+    start(
+        b"ten user slots: ",
+        b"\x01\x01\x0a\x00\x00\x00\x00\x00\x00\x00\x00\x00\x00\x00\x00\x00\x00\x00\x00\x00\x00\x00\x00\x00\x00",
+    );
+}
+
+fn main() {
+    case_8();
+    case_1();
+    refusals();
+}
