@@ -21,11 +21,11 @@ use Rattle.jobreader.specs.declared.Reader.{Reader}
 use Rattle.jobreader.specs.declared.Step.{Step}
 use Rattle.jobreader.specs.declared.JobFile.{JobFile}
 use Rattle.listing.specs.Listing.{Printed, printedOf}
-use Rattle.listing.specs.declared.TextAnswer.{TextAnswer}
-use Rattle.seineflute.specs.Flat.{answerOf, fileOf, textOf}
-use Rattle.seineflute.specs.declared.Answer as c
-use Rattle.seineflute.specs.declared.FileAnswer as c-file
-use Rattle.seineflute.specs.declared.ListingAnswer as c-text
+use Rattle.texts.specs.declared.TextAnswer.{TextAnswer}
+use Rattle.flat.specs.Flat.{answerOf, fileOf, textOf}
+use Rattle.flat.specs.declared.Answer as c
+use Rattle.flat.specs.declared.FileAnswer as c-file
+use Rattle.flat.specs.declared.ListingAnswer as c-text
 use Rattle.demands.specs.OneOutcome.{One, OneSeen, jobSeen, OneOutcome}
 
 -- the law: what is equal to one outcome, and can be read back from it, is one

@@ -30,12 +30,12 @@ use Rattle.jobreader.specs.declared.Reader.{Reader}
 use Rattle.jobreader.specs.declared.Step.{Step}
 use Rattle.jobreader.specs.declared.JobFile.{JobFile}
 use Rattle.listing.specs.Listing.{printed, printedOf}
-use Rattle.listing.specs.declared.TextAnswer.{TextAnswer}
-use Rattle.seineflute.specs.Flat.{answerOf, slotNumbers, fileOf, textOf}
-use Rattle.seineflute.specs.declared.Answer as c
-use Rattle.seineflute.specs.declared.SlotAnswer as c-slot
-use Rattle.seineflute.specs.declared.FileAnswer as c-file
-use Rattle.seineflute.specs.declared.ListingAnswer as c-text
+use Rattle.texts.specs.declared.TextAnswer.{TextAnswer}
+use Rattle.flat.specs.Flat.{answerOf, slotNumbers, fileOf, textOf}
+use Rattle.flat.specs.declared.Answer as c
+use Rattle.flat.specs.declared.SlotAnswer as c-slot
+use Rattle.flat.specs.declared.FileAnswer as c-file
+use Rattle.flat.specs.declared.ListingAnswer as c-text
 
 -- any two that are allowed are equal
 abbrev pub One : {A : Type 0} → (A → Type 0) → Type 0

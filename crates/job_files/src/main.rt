@@ -1,7 +1,7 @@
 // Job files run and compared: the arguments name a job file and the text that it must give, and so on; prints a line for each.
 ghost use Rattle.io.specs.Counts.{Counts};
 use libc::STDOUT_FILENO;
-use listing::TextAnswer;
+use texts::TextAnswer;
 
 // The file that argument i names, at the front of the buffer; gives how many bytes of it are there.
 fn read_named(i: usize, buffer: &mut [u8]) -> usize

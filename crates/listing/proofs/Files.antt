@@ -27,7 +27,7 @@ use Rattle.texts.specs.Lines.{refusedLine}
 use Rattle.listed.specs.RunText.{FILE, runText}
 use Rattle.listing.specs.Listing.{ENOUGH, programChecks, fileHeld, listing, handedOver, Printed, printedOf, printed}
 use Rattle.texts.specs.Writing.{Room}
-use Rattle.listing.specs.declared.TextAnswer.{TextAnswer}
+use Rattle.texts.specs.declared.TextAnswer.{TextAnswer}
 use Rattle.texts.proofs.Lines.{refused-small}
 use Rattle.listing.proofs.Refusals.{number-most}
 use Rattle.listing.proofs.Enough.{run-enough}

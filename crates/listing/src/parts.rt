@@ -4,9 +4,9 @@ ghost use mathlib.Core.Path.{_≡_};
 ghost use lib.ListN.{length, take};
 ghost use Rattle.texts.specs.Writing.{Wrote};
 ghost use Rattle.listing.specs.Listing.{ENOUGH, listing, printedOf, handedOver};
-use crate::TextAnswer;
 use answers::Answer;
 use listed::parts::jobs;
+use texts::TextAnswer;
 use texts::parts::lines;
 use texts::parts::words;
 

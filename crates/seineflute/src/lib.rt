@@ -15,52 +15,46 @@ ghost use Rattle.runs.specs.Run.{ran};
 ghost use Rattle.jobfile.specs.File.{read};
 ghost use Rattle.jobfile.specs.Answers.{readOf};
 ghost use Rattle.listing.specs.Listing.{printed, printedOf};
-ghost use Rattle.seineflute.specs.Flat.{answerOf, slotNumbers, fileOf, textOf};
+ghost use Rattle.flat.specs.Flat.{answerOf, slotNumbers, fileOf, textOf};
+ghost use Rattle.seineflute.specs.Limits.{limits};
+use flat::Answer;
+use flat::FileAnswer;
+use flat::ListingAnswer;
+use flat::SlotAnswer;
+use racks::Job;
+use texts::TextAnswer;
 
-pub mod parts;
-
-// What every call gives: a number of 01's list and the counts.
+// Every limit and mark, as the library has it: racks, bytes of a card, user slots of a rack and of all racks, slots; a free slot, the hand;
+// bytes of a file that is listed, and bytes that are enough for every text.
 #[repr(C)]
-pub struct Answer {
-    pub number: usize,
-    pub phases: usize,
-    pub moves: usize,
-    pub copies: usize,
-}
-
-// What the slot question gives: kind 1 user slot or 2 spare; state 1 free, 2 settled, 3 unsettled or 4 away, with the rack; 0 for none.
-#[repr(C)]
-pub struct SlotAnswer {
-    pub number: usize,
-    pub phases: usize,
-    pub moves: usize,
-    pub copies: usize,
-    pub kind: usize,
-    pub state: usize,
-    pub rack: usize,
-}
-
-// What the file reader gives: N, B, S and the place where the card bytes begin; all 0 on a refusal.
-#[repr(C)]
-pub struct FileAnswer {
-    pub number: usize,
-    pub phases: usize,
-    pub moves: usize,
-    pub copies: usize,
+pub struct Limits {
     pub racks: usize,
     pub bytes: usize,
+    pub users: usize,
+    pub total: usize,
     pub slots: usize,
-    pub place: usize,
+    pub free: usize,
+    pub hand: usize,
+    pub file: usize,
+    pub enough: usize,
 }
 
-// What the listing gives: the number, and how many bytes the text has; 0 on a refusal.
-#[repr(C)]
-pub struct ListingAnswer {
-    pub number: usize,
-    pub phases: usize,
-    pub moves: usize,
-    pub copies: usize,
-    pub size: usize,
+// Limits and marks.
+#[no_mangle]
+pub extern "C" fn seineflute_limits() -> Limits
+    ensures { λ r. ⌜ r ≡ limits ⌝ }
+{
+    Limits {
+        racks: Job::MAX_RACKS,
+        bytes: Job::MAX_BYTES,
+        users: Job::MAX_USERS,
+        total: Job::MAX_TOTAL,
+        slots: Job::MAX_SLOTS,
+        free: Job::FREE as usize,
+        hand: Job::HAND as usize,
+        file: TextAnswer::FILE,
+        enough: TextAnswer::ENOUGH,
+    }
 }
 
 // Table check.
@@ -69,7 +63,7 @@ pub extern "C" fn seineflute_check_table(caps: &[u16], places: &[u16]) -> Answer
     ensures { λ r. ⌜ answerOf r ≡ checked (ofCaps (now (caps .entry))) (now (places .entry)) ⌝ }
 {
     let answer = tables::check_table(caps, places);
-    parts::numbers_of(answer)
+    flat::parts::numbers_of(answer)
 }
 
 // Slot question.
@@ -78,7 +72,7 @@ pub extern "C" fn seineflute_slot_question(caps: &[u16], places: &[u16], slot: u
     ensures { λ r. ⌜ r ≡ slotNumbers (asked (ofCaps (now (caps .entry))) (now (places .entry)) slot) ⌝ }
 {
     let found = slots::slot_question(caps, places, slot);
-    parts::slot_numbers(found)
+    flat::parts::slot_numbers(found)
 }
 
 // Phase plan.
@@ -87,7 +81,7 @@ pub extern "C" fn seineflute_phase_plan(caps: &[u16], places: &[u16], lent: &mut
     ensures { λ r. ⌜ listedOf (answerOf r) (now (lent .exit)) ≡ planned (ofCaps (now (caps .entry))) (now (places .entry)) (now (lent .entry)) ⌝ }
 {
     let answer = plans::phase_plan(caps, places, lent);
-    parts::numbers_of(answer)
+    flat::parts::numbers_of(answer)
 }
 
 // One move.
@@ -103,7 +97,7 @@ pub extern "C" fn seineflute_one_move(
     ensures { λ r. ⌜ outcomeOf (answerOf r) (now (places .exit)) (now (cards .exit)) ≡ moved (ofCaps (now (caps .entry))) b (held (now (places .entry)) (now (cards .entry))) (from, to) ⌝ }
 {
     let answer = moves::one_move(caps, b, places, cards, from, to);
-    parts::numbers_of(answer)
+    flat::parts::numbers_of(answer)
 }
 
 // Budgeted moves.
@@ -118,7 +112,7 @@ pub extern "C" fn seineflute_budgeted_moves(
     ensures { λ r. ⌜ outcomeOf (answerOf r) (now (places .exit)) (now (cards .exit)) ≡ budgeted (ofCaps (now (caps .entry))) b (held (now (places .entry)) (now (cards .entry))) k ⌝ }
 {
     let answer = budgets::budgeted_moves(caps, b, places, cards, k);
-    parts::numbers_of(answer)
+    flat::parts::numbers_of(answer)
 }
 
 // Copy list.
@@ -127,7 +121,7 @@ pub extern "C" fn seineflute_copy_list(caps: &[u16], places: &[u16], lent: &mut 
     ensures { λ r. ⌜ listedOf (answerOf r) (now (lent .exit)) ≡ copied (ofCaps (now (caps .entry))) (now (places .entry)) (now (lent .entry)) ⌝ }
 {
     let answer = copies::copy_list(caps, places, lent);
-    parts::numbers_of(answer)
+    flat::parts::numbers_of(answer)
 }
 
 // Shuffle.
@@ -141,7 +135,7 @@ pub extern "C" fn seineflute_shuffle_cards(
     ensures { λ r. ⌜ outcomeOf (answerOf r) (now (places .exit)) (now (cards .exit)) ≡ shuffled (ofCaps (now (caps .entry))) b (held (now (places .entry)) (now (cards .entry))) ⌝ }
 {
     let answer = shuffle::shuffle_cards(caps, b, places, cards);
-    parts::numbers_of(answer)
+    flat::parts::numbers_of(answer)
 }
 
 // Whole run.
@@ -155,7 +149,7 @@ pub extern "C" fn seineflute_whole_run(
     ensures { λ r. ⌜ outcomeOf (answerOf r) (now (places .exit)) (now (cards .exit)) ≡ ran (ofCaps (now (caps .entry))) b (held (now (places .entry)) (now (cards .entry))) ⌝ }
 {
     let answer = runs::whole_run(caps, b, places, cards);
-    parts::numbers_of(answer)
+    flat::parts::numbers_of(answer)
 }
 
 // Job file. A struct with a reference has no form in C, so the caller takes the card bytes from their place on.
@@ -168,7 +162,7 @@ pub extern "C" fn seineflute_read_file(
     ensures { λ r. ⌜ readOf (fileOf r) (now (caps .exit)) (now (places .exit)) (now (file .entry)) ≡ read (now (file .entry)) (now (caps .entry)) (now (places .entry)) ⌝ }
 {
     let found = jobfile::read_file(file, caps, places);
-    parts::file_numbers(found)
+    flat::parts::file_numbers(found)
 }
 
 // The listing.
@@ -177,5 +171,5 @@ pub extern "C" fn seineflute_list_job(file: &[u8], out: &mut [u8]) -> ListingAns
     ensures { λ r. ⌜ printedOf (textOf r) (now (out .exit)) ≡ printed (now (file .entry)) (now (out .entry)) ⌝ }
 {
     let found = listing::list_job(file, out);
-    parts::text_numbers(found)
+    flat::parts::text_numbers(found)
 }

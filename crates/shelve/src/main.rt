@@ -5,7 +5,7 @@ ghost use lib.ListN.{length, take};
 ghost use Rattle.listing.specs.Listing.{ENOUGH, listing};
 use libc::STDIN_FILENO;
 use libc::STDOUT_FILENO;
-use listing::TextAnswer;
+use texts::TextAnswer;
 
 // The text of a file, at the front of a buffer that is always long enough; gives how many bytes it has.
 fn list_file(file: &[u8], out: &mut [u8]) -> usize

@@ -1,7 +1,7 @@
 -- `seineflute::seineflute_list_job` meets its contract. Assumes nothing.
 use mathlib.Core.Path.{ap, _∙_}
 use Rattle.listing.specs.Listing.{printedOf}
-use Rattle.listing.specs.declared.TextAnswer.{TextAnswer}
+use Rattle.texts.specs.declared.TextAnswer.{TextAnswer}
 use borrow.Author.Needs.{needs}
 use Rattle.seineflute.proofs.seineflute_list_job.Statement.{statement}
 use Rattle.seineflute.proofs.seineflute_list_job.Tie as tie

@@ -1,6 +1,6 @@
 -- `seineflute::seineflute_slot_question` meets its contract. Assumes nothing.
 use mathlib.Core.Path.{ap, _∙_}
-use Rattle.seineflute.specs.Flat.{slotNumbers}
+use Rattle.flat.specs.Flat.{slotNumbers}
 use borrow.Author.Needs.{needs}
 use Rattle.seineflute.proofs.seineflute_slot_question.Statement.{statement}
 use Rattle.seineflute.proofs.seineflute_slot_question.Tie as tie

@@ -1,7 +1,7 @@
--- `seineflute::parts::slot_numbers` meets its contract. Assumes nothing.
+-- `flat::parts::slot_numbers` meets its contract. Assumes nothing.
 use borrow.Author.Needs.{needs}
-use Rattle.seineflute.proofs.parts.slot_numbers.Statement.{statement}
-use Rattle.seineflute.proofs.parts.slot_numbers.Tie as tie
+use Rattle.flat.proofs.parts.slot_numbers.Statement.{statement}
+use Rattle.flat.proofs.parts.slot_numbers.Tie as tie
 
 cast-t5 : tie.Need-cast-t5
 cast-t5 c = search needs

@@ -1,9 +1,9 @@
--- `seineflute::parts::kind_number` meets its contract. Assumes nothing.
+-- `flat::parts::kind_number` meets its contract. Assumes nothing.
 use mathlib.Core.Path.{sym, ap}
-use Rattle.seineflute.specs.Flat.{kindNumber}
+use Rattle.flat.specs.Flat.{kindNumber}
 use borrow.Author.Needs.{needs}
-use Rattle.seineflute.proofs.parts.kind_number.Statement.{statement}
-use Rattle.seineflute.proofs.parts.kind_number.Tie as tie
+use Rattle.flat.proofs.parts.kind_number.Statement.{statement}
+use Rattle.flat.proofs.parts.kind_number.Tie as tie
 
 enum-told : tie.Need-enum-told
 enum-told c = search needs

@@ -1,6 +1,6 @@
 // The layers' answers as plain numbers.
 ghost use mathlib.Core.Path.{_≡_};
-ghost use Rattle.seineflute.specs.Flat.{answerOf, kindNumber, stateNumber, rackNumber, slotNumbers, fileOf, textOf};
+ghost use Rattle.flat.specs.Flat.{answerOf, kindNumber, stateNumber, rackNumber, slotNumbers, fileOf, textOf};
 use crate::Answer;
 use crate::FileAnswer;
 use crate::ListingAnswer;
@@ -92,7 +92,7 @@ pub fn file_numbers(found: jobfile::FileAnswer) -> FileAnswer
 }
 
 // The listing's answer.
-pub fn text_numbers(found: listing::TextAnswer) -> ListingAnswer
+pub fn text_numbers(found: texts::TextAnswer) -> ListingAnswer
     ensures { λ r. ⌜ textOf r ≡ found ⌝ }
 {
     ListingAnswer {

@@ -7,11 +7,11 @@ use Rattle.slots.specs.declared.State.{State}
 use Rattle.slots.specs.declared.State.the-variants as state
 use Rattle.slots.specs.declared.SlotAnswer as slots
 use Rattle.jobfile.specs.declared.FileAnswer as jobfile
-use Rattle.listing.specs.declared.TextAnswer as listing
-use Rattle.seineflute.specs.declared.Answer.{Answer}
-use Rattle.seineflute.specs.declared.SlotAnswer.{SlotAnswer}
-use Rattle.seineflute.specs.declared.FileAnswer.{FileAnswer}
-use Rattle.seineflute.specs.declared.ListingAnswer.{ListingAnswer}
+use Rattle.texts.specs.declared.TextAnswer as texts
+use Rattle.flat.specs.declared.Answer.{Answer}
+use Rattle.flat.specs.declared.SlotAnswer.{SlotAnswer}
+use Rattle.flat.specs.declared.FileAnswer.{FileAnswer}
+use Rattle.flat.specs.declared.ListingAnswer.{ListingAnswer}
 
 -- the answer that four numbers are
 abbrev pub answerOf : Answer → layers.Answer
@@ -64,7 +64,7 @@ fileOf r =
     }
 
 -- the listing's answer that five numbers are
-abbrev pub textOf : ListingAnswer → listing.TextAnswer
+abbrev pub textOf : ListingAnswer → texts.TextAnswer
 textOf r =
     record {
       answer = record { number = r .number; tally = record { phases = r .phases; moves = r .moves; copies = r .copies } };

@@ -8,14 +8,14 @@ use Rattle.slots.specs.declared.Kind.the-variants as kind
 use Rattle.slots.specs.declared.State.{State}
 use Rattle.slots.specs.declared.State.the-variants as state
 use Rattle.slots.specs.declared.SlotAnswer as slots
-use Rattle.seineflute.specs.declared.Answer.{Answer}
-use Rattle.seineflute.specs.declared.SlotAnswer.{SlotAnswer}
-use Rattle.seineflute.specs.declared.FileAnswer.{FileAnswer}
-use Rattle.seineflute.specs.declared.ListingAnswer.{ListingAnswer}
+use Rattle.flat.specs.declared.Answer.{Answer}
+use Rattle.flat.specs.declared.SlotAnswer.{SlotAnswer}
+use Rattle.flat.specs.declared.FileAnswer.{FileAnswer}
+use Rattle.flat.specs.declared.ListingAnswer.{ListingAnswer}
 use Rattle.answers.specs.declared.Answer as layers
 use Rattle.jobfile.specs.declared.FileAnswer as jobfile
-use Rattle.listing.specs.declared.TextAnswer as listing
-use Rattle.seineflute.specs.Flat.{answerOf, kindNumber, stateNumber, rackNumber, slotNumbers, fileOf, textOf}
+use Rattle.texts.specs.declared.TextAnswer as texts
+use Rattle.flat.specs.Flat.{answerOf, kindNumber, stateNumber, rackNumber, slotNumbers, fileOf, textOf}
 
 -- two answers of four numbers that are one answer of the layers are equal
 pub answer-same : (a b : Answer) → answerOf a ≡ answerOf b → a ≡ b
@@ -39,7 +39,7 @@ file-same a b e =
 -- two answers of five numbers that are one answer of the listing are equal
 pub text-same : (a b : ListingAnswer) → textOf a ≡ textOf b → a ≡ b
 text-same a b e =
-    ap (λ (x : listing.TextAnswer).
+    ap (λ (x : texts.TextAnswer).
     record {
       number = x .answer .number;
       phases = x .answer .tally .phases;

@@ -1,8 +1,8 @@
--- `seineflute::parts::text_numbers` meets its contract. Assumes nothing.
+-- `flat::parts::text_numbers` meets its contract. Assumes nothing.
 use mathlib.Core.Path.{refl}
 use borrow.Author.Needs.{needs}
-use Rattle.seineflute.proofs.parts.text_numbers.Statement.{statement}
-use Rattle.seineflute.proofs.parts.text_numbers.Tie as tie
+use Rattle.flat.proofs.parts.text_numbers.Statement.{statement}
+use Rattle.flat.proofs.parts.text_numbers.Tie as tie
 
 cast-t2 : tie.Need-cast-t2
 cast-t2 c = search needs

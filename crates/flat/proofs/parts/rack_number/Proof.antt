@@ -1,9 +1,9 @@
--- `seineflute::parts::rack_number` meets its contract. Assumes nothing.
+-- `flat::parts::rack_number` meets its contract. Assumes nothing.
 use mathlib.Core.Path.{sym, ap}
-use Rattle.seineflute.specs.Flat.{rackNumber}
+use Rattle.flat.specs.Flat.{rackNumber}
 use borrow.Author.Needs.{needs}
-use Rattle.seineflute.proofs.parts.rack_number.Statement.{statement}
-use Rattle.seineflute.proofs.parts.rack_number.Tie as tie
+use Rattle.flat.proofs.parts.rack_number.Statement.{statement}
+use Rattle.flat.proofs.parts.rack_number.Tie as tie
 
 enum-known-state : tie.Need-enum-known-state
 enum-known-state c = search needs
