@@ -156,6 +156,25 @@ typedef struct seineflute_listing_answer {
     size_t size; /* the bytes of the text */
 } seineflute_listing_answer;
 
+/* Limits and marks, as the library has them. */
+typedef struct seineflute_limits_answer {
+    size_t racks;  /* SEINEFLUTE_MAX_RACKS */
+    size_t bytes;  /* SEINEFLUTE_MAX_BYTES */
+    size_t users;  /* SEINEFLUTE_MAX_USERS */
+    size_t total;  /* SEINEFLUTE_MAX_TOTAL */
+    size_t slots;  /* SEINEFLUTE_MAX_SLOTS; twice that is SEINEFLUTE_PLAN_ROOM, three times SEINEFLUTE_COPY_ROOM */
+    size_t free;   /* SEINEFLUTE_FREE */
+    size_t hand;   /* SEINEFLUTE_HAND */
+    size_t file;   /* SEINEFLUTE_MAX_FILE */
+    size_t enough; /* SEINEFLUTE_TEXT_ROOM */
+} seineflute_limits_answer;
+
+/*
+ * Limits. Gives the limits and marks that the library was proved with, to hold this header's against
+ * (examples/limits.c).
+ */
+seineflute_limits_answer seineflute_limits(void);
+
 /*
  * Table check. Gives 0 for a legal table, else 1, 3, 4, 5 or 6. All counts are 0.
  */

@@ -58,6 +58,10 @@ use std::fmt;
 
 pub mod raw;
 
+/// The limits and marks that the library was proved with; the constants below are
+/// held against them (`tests/limits.rs`).
+pub use raw::{limits, Limits};
+
 /// In a places table: the slot is free.
 pub const FREE: u16 = 65_535;
 

@@ -60,11 +60,37 @@ pub struct ListingAnswer {
     pub size: usize,
 }
 
+/// The limits and marks that the library was proved with.
+#[repr(C)]
+#[derive(Clone, Copy, Debug, Default, PartialEq, Eq)]
+pub struct Limits {
+    /// The most racks.
+    pub racks: usize,
+    /// The most bytes of a card.
+    pub bytes: usize,
+    /// The most user slots of a rack.
+    pub users: usize,
+    /// The most user slots of all racks.
+    pub total: usize,
+    /// The most slots, spares among them.
+    pub slots: usize,
+    /// In a places table: the slot is free.
+    pub free: usize,
+    /// In a copy list: the hand.
+    pub hand: usize,
+    /// The most bytes of a file that is listed.
+    pub file: usize,
+    /// Room for the listing's text of every file.
+    pub enough: usize,
+}
+
 /// The library's functions: a slice is a pointer and a number of entries.
 mod c {
-    use super::{Answer, FileAnswer, ListingAnswer, SlotAnswer};
+    use super::{Answer, FileAnswer, Limits, ListingAnswer, SlotAnswer};
 
     extern "C" {
+        pub fn seineflute_limits() -> Limits;
+
         pub fn seineflute_check_table(
             caps: *const u16,
             caps_len: usize,
@@ -162,6 +188,12 @@ mod c {
 // Every call below is sound for one reason: the pointers and lengths are those of
 // slices, so they are aligned, not null and valid, and a `&mut` overlaps no other;
 // the library is proved to read and write inside them only, and keeps none.
+
+/// Limits and marks.
+pub fn limits() -> Limits {
+    // SAFETY: it takes nothing.
+    unsafe { c::seineflute_limits() }
+}
 
 /// Table check.
 pub fn check_table(caps: &[u16], places: &[u16]) -> Answer {
