@@ -20,7 +20,7 @@ use Rattle.copies.specs.Copies.{copyChecks, copied}
 use Rattle.shuffle.specs.Shuffle.{shuffleChecks, shuffled}
 use Rattle.runs.specs.Run.{ran}
 use Rattle.answers.specs.declared.Answer.{Answer}
-use Rattle.jobfile.specs.Number.{number, groups, numbers}
+use Rattle.jobfile.specs.Numeral.{numeral, groups, numerals}
 use Rattle.jobfile.specs.File.{readN, fileRacks, fileBytes, fileChecks, readChecks, read}
 use Rattle.jobreader.specs.Reading.{ahead, JobRead}
 use Rattle.jobreader.specs.declared.Reader.{Reader}
@@ -34,7 +34,7 @@ use Rattle.demands.specs.Demand1.{Demand1}
 use Rattle.demands.proofs.Rows.{given-none, given-row, holds-some}
 use Rattle.demands.proofs.Says.{says-or, says-lt, says-user, says-7, says-12, says-13}
 use Rattle.demands.proofs.CallRows.{given-table, given-cards, given-table-only, given-cards-only, given-ends}
-use Rattle.demands.proofs.Forms.{given-form, number-ends, number-good}
+use Rattle.demands.proofs.Forms.{given-form, numeral-ends, numeral-good}
 use Rattle.demands.proofs.FileRows.{given-file, given-file-only}
 
 -- the rack of a slot
@@ -73,9 +73,9 @@ given-job : (reader : Reader) (caps places : List ℕ) (job : JobFile) (caps′ 
 given-job reader caps places job caps′ places′ r =
     subst (λ (a : Answer). Given (a .number) (fileRows (ahead reader) then (17, NoRoom (ahead reader) caps places) ∷ [])) (sym (r .answer-is)) (given-read (ahead reader) caps places)
 
--- nothing lies ahead of a place behind the end, and no number is in an empty file
+-- nothing lies ahead of a place behind the end, and no numeral is in an empty file
 behind : (reader : Reader) (caps places : List ℕ) → length (now (reader .file)) ≤ reader .at → read (ahead reader) caps places .answer .number ≡ 15
-unfolding first ahead read readChecks fileChecks readN numbers number groups
+unfolding first ahead read readChecks fileChecks readN numerals numeral groups
 behind reader caps places l = rw (drop-of-length-le (now (reader .file)) {i = reader .at} l)
 
 pub demand1 : Demand1
@@ -97,8 +97,8 @@ demand1 =
       behind-end = behind;
       list-job = λ file lent. given-row _ (λ e. omega arith) (says-13 lent _) given-none;
       form = given-form;
-      ends = number-ends;
-      value = number-good;
+      ends = numeral-ends;
+      value = numeral-good;
       shelve-refuses = refuses;
       shelve-runs = runs;
       capacities = λ caps. (length-caps caps, slots-caps caps);

@@ -1,4 +1,4 @@
--- The file reader's number is given by its rows, number by number as they are read. Assumes nothing.
+-- The file reader's number is given by its rows, numeral by numeral as they are read. Assumes nothing.
 use mathlib.Core.Path.{_≡_, refl, ap, sym, _∙_, subst}
 use mathlib.Core.Bool.{Bool, true, false}
 use mathlib.Core.List.{List, [], _∷_, _++_, append-assoc, append-nil}
@@ -11,17 +11,17 @@ use Rattle.counting.specs.Tests.{pick}
 use Rattle.counting.specs.Checks.{Check, first, refusal, done}
 use Rattle.counting.proofs.Checks.{first-none}
 use Rattle.racks.specs.Racks.{Rack, ofCaps, slots}
-use Rattle.jobfile.specs.Number.{number, Numbers, numbers}
+use Rattle.jobfile.specs.Numeral.{numeral, Numerals, numerals}
 use Rattle.jobfile.specs.File.{wrongN, wrongB, wrongM, wrongEntry, readN, readB, readM, readEntries, fileRacks, fileBytes, filePlaces, fileCards, fileChecks}
-use Rattle.jobfile.proofs.Numbers.{either, alone}
+use Rattle.jobfile.proofs.Numerals.{either, alone}
 use Rattle.demands.specs.Rows.{Row, Numbered, Given}
 use Rattle.demands.specs.Conditions.{TwoNameOne}
-use Rattle.demands.specs.FileConditions.{formRows, askN, askB, askM, askEntry, numberRows, fileRows}
+use Rattle.demands.specs.FileConditions.{formRows, askN, askB, askM, askEntry, numeralRows, fileRows}
 use Rattle.demands.proofs.Rows.{given-none, given-row, given-after, numbered-both}
 use Rattle.demands.proofs.Says.{says-eq, says-lt, says-not, says-and, says-user, says-1, says-2, says-3, says-6}
 use Rattle.demands.proofs.Forms.{given-form}
 
--- a number, what it is asked, and the numbers after it
+-- a numeral, what it is asked, and the numerals after it
 three : (a b c : ℕ) → pick (done (either a b)) c (either a b) ≡ first (refusal a ∷ refusal b ∷ refusal c ∷ [])
 unfolding first
 three a b c = elim (ℕ-discrete a 0) [
@@ -32,38 +32,38 @@ three a b c = elim (ℕ-discrete a 0) [
   | no e ↦ rw (ne-eqb a 0 e, ne-eqb a 0 e)
 ]
 
-number-of : (t : Bool) (r s : Numbers) → pick t r s .number ≡ pick t (r .number) (s .number)
+number-of : (t : Bool) (r s : Numerals) → pick t r s .number ≡ pick t (r .number) (s .number)
 number-of true r s = refl
 number-of false r s = refl
 
--- numbers read one after another, each asked as its check says
+-- numerals read one after another, each asked as its check says
 module _ (ask : List ℕ → ℕ → List Row) (bad : List ℕ → ℕ → ℕ) (file : List ℕ) (says : (before : List ℕ) (x : ℕ) → Given (bad before x) (ask before x)) where
-  pub numbered-numbers : (n at : ℕ) (before : List ℕ) → Numbered (numberRows ask n file at before)
-  unfolding numberRows Numbered
-  numbered-numbers zero at before = tt
-  numbered-numbers (suc n) at before =
-      let x = number file at in
-      let rest = numbered-numbers n (x .place) (before ++ x .value ∷ []) in
+  pub numbered-numerals : (n at : ℕ) (before : List ℕ) → Numbered (numeralRows ask n file at before)
+  unfolding numeralRows Numbered
+  numbered-numerals zero at before = tt
+  numbered-numerals (suc n) at before =
+      let x = numeral file at in
+      let rest = numbered-numerals n (x .place) (before ++ x .value ∷ []) in
       ((λ e. omega arith), ((λ e. omega arith), numbered-both _ (ask before (x .value)) (says before (x .value) .numbered) rest))
 
-  -- one number more
-  step : (n at : ℕ) (before : List ℕ) → numbers bad (suc n) file at before .number
-      ≡ first (refusal (number file at .number) ∷ refusal (bad before (number file at .value))
-      ∷ refusal (numbers bad n file (number file at .place) (before ++ number file at .value ∷ []) .number) ∷ [])
-  unfolding numbers
+  -- one numeral more
+  step : (n at : ℕ) (before : List ℕ) → numerals bad (suc n) file at before .number
+      ≡ first (refusal (numeral file at .number) ∷ refusal (bad before (numeral file at .value))
+      ∷ refusal (numerals bad n file (numeral file at .place) (before ++ numeral file at .value ∷ []) .number) ∷ [])
+  unfolding numerals
   step n at before =
-      let x = number file at in
+      let x = numeral file at in
       number-of (done (either (x .number) (bad before (x .value)))) _ _ ∙ three (x .number) (bad before (x .value)) _
 
-  pub given-numbers : (n at : ℕ) (before : List ℕ) → Given (numbers bad n file at before .number) (numberRows ask n file at before)
-  unfolding numberRows
-  given-numbers zero at before = unfold numbers in subst (λ (m : ℕ). Given m []) first-none given-none
-  given-numbers (suc n) at before =
-      let x = number file at in
-      let rows = numberRows ask n file (x .place) (before ++ x .value ∷ []) in
-      let k = numbered-numbers n (x .place) (before ++ x .value ∷ []) in
+  pub given-numerals : (n at : ℕ) (before : List ℕ) → Given (numerals bad n file at before .number) (numeralRows ask n file at before)
+  unfolding numeralRows
+  given-numerals zero at before = unfold numerals in subst (λ (m : ℕ). Given m []) first-none given-none
+  given-numerals (suc n) at before =
+      let x = numeral file at in
+      let rows = numeralRows ask n file (x .place) (before ++ x .value ∷ []) in
+      let k = numbered-numerals n (x .place) (before ++ x .value ∷ []) in
       let s = says before (x .value) in
-      let rest = given-numbers n (x .place) (before ++ x .value ∷ []) in
+      let rest = given-numerals n (x .place) (before ++ x .value ∷ []) in
       subst (λ (m : ℕ). Given m (formRows file at ++ (ask before (x .value) ++ rows))) (sym (step n at before))
       (given-after (x .number) (formRows file at) _ (ask before (x .value) ++ rows) (given-form file at) (numbered-both rows (ask before (x .value)) (s .numbered) k)
       (λ _. given-after (bad before (x .value)) (ask before (x .value)) _ rows s k
@@ -88,16 +88,16 @@ given-entry racks before x = given-row _ (λ e. omega arith) (says-and (says-not
 
 module _ (file : List ℕ) where
   abbrev rowsN : List Row
-  rowsN = numberRows askN 1 file 0 []
+  rowsN = numeralRows askN 1 file 0 []
 
   abbrev rowsB : List Row
-  rowsB = numberRows askB 1 file (readN file .place) []
+  rowsB = numeralRows askB 1 file (readN file .place) []
 
   abbrev rowsM : List Row
-  rowsM = numberRows askM (getD (readN file .values) 0 0) file (readB file .place) []
+  rowsM = numeralRows askM (getD (readN file .values) 0 0) file (readB file .place) []
 
   abbrev rowsE : List Row
-  rowsE = numberRows (askEntry (fileRacks file)) (slots (fileRacks file)) file (readM file .place) []
+  rowsE = numeralRows (askEntry (fileRacks file)) (slots (fileRacks file)) file (readM file .place) []
 
   -- after the last entry
   abbrev rowsC : List Row
@@ -121,10 +121,10 @@ module _ (file : List ℕ) where
   given-file ds more g =
       let c : Given (first _) (rowsC ++ more) =
       given-row _ (λ e. omega arith) (says-6 (filePlaces file)) (given-row _ (λ e. omega arith) (says-lt _ _) (given-row _ (λ e. omega arith) (says-lt _ _) g)) in
-      let n = given-numbers askN wrongN file given-n 1 0 [] in
-      let b = given-numbers askB wrongB file given-b 1 (readN file .place) [] in
-      let m = given-numbers askM wrongM file given-m (getD (readN file .values) 0 0) (readB file .place) [] in
-      let e = given-numbers (askEntry (fileRacks file)) (wrongEntry (fileRacks file)) file (given-entry (fileRacks file)) (slots (fileRacks file)) (readM file .place) [] in
+      let n = given-numerals askN wrongN file given-n 1 0 [] in
+      let b = given-numerals askB wrongB file given-b 1 (readN file .place) [] in
+      let m = given-numerals askM wrongM file given-m (getD (readN file .values) 0 0) (readB file .place) [] in
+      let e = given-numerals (askEntry (fileRacks file)) (wrongEntry (fileRacks file)) file (given-entry (fileRacks file)) (slots (fileRacks file)) (readM file .place) [] in
       let past-m = numbered-both (rowsC ++ more) rowsE (e .numbered) (c .numbered) in
       let past-b = numbered-both (rowsE ++ (rowsC ++ more)) rowsM (m .numbered) past-m in
       let past-n = numbered-both (rowsM ++ (rowsE ++ (rowsC ++ more))) rowsB (b .numbered) past-b in

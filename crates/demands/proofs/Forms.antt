@@ -1,4 +1,4 @@
--- The form of a number in a file: how its groups end, and what is read then. Assumes nothing.
+-- The form of a numeral in a file: how its groups end, and what is read then. Assumes nothing.
 use mathlib.Core.Path.{_≡_, refl, ap, sym, _∙_, subst}
 use mathlib.Core.Logic.{_≢_, _↔_, Iff·trans, _⊎_, inl, inr}
 use mathlib.Core.List.{List, [], _∷_}
@@ -12,7 +12,7 @@ use lib.ListN.{length, getD}
 use Rattle.counting.specs.Count.{sum}
 use Rattle.counting.specs.Checks.{first}
 use Rattle.counting.proofs.Select.{sum-zero, sum-suc}
-use Rattle.jobfile.specs.Number.{Got, refused, groups, number}
+use Rattle.jobfile.specs.Numeral.{Got, refused, groups, numeral}
 use Rattle.jobfile.specs.Parts.{lastGroup}
 use Rattle.jobfile.proofs.Groups.{last-some, last-14, last-only, group-15, group-last, group-more, group-14}
 use Rattle.demands.specs.Rows.{Given}
@@ -45,11 +45,11 @@ add-on : (m n : ℕ) → m + n + 1 ≡ m + (n + 1)
 add-on m n = omega arith
 
 module _ (file : List ℕ) (at : ℕ) where
-  -- what is read where the number ends well with group i
+  -- what is read where the numeral ends well with group i
   abbrev pub readTo : ℕ → Got
   readTo i = record { number = 0; value = valueOf file at i; place = at + i + 1 }
 
-  -- how a number ends, and what is then read
+  -- how a numeral ends, and what is then read
   pub data Form (got : Got) : Type 0 where
     misshapen : Padded file at ⊎ TooLong file at → got ≡ refused 14 → Form got
     cut : CutShort file at → got ≡ refused 15 → Form got
@@ -108,15 +108,15 @@ module _ (file : List ℕ) (at : ℕ) where
         ]
       ]
 
-  pub form : Form (number file at)
-  unfolding number
+  pub form : Form (numeral file at)
+  unfolding numeral
   form = subst (λ (k : ℕ). Form (groups 3 file k 0 1)) (omega arith) (form-from 3 0 0 1 refl (λ j l. absurd (omega arith)) (sym (sum-zero (sevenBits file at))) refl)
 
   -- no group follows group i
   abbrev Stop : ℕ → Type 0
   Stop i = (i < 3) × Follows file at i × (at + i < length file → 128 ≤ getD file (at + i) 0 → ⊥)
 
-  -- a number stops at one group
+  -- a numeral stops at one group
   stop-same : (i j : ℕ) → Stop i → Stop j → i ≡ j
   stop-same i j s t = elim (decLe i j) [
     | yes l ↦ elim (decLe j i) [ yes m ↦ omega arith | no m ↦ let h = t .1 i (omega arith) in absurd (s .2 (h .0) (h .1)) ]
@@ -149,24 +149,24 @@ module _ (file : List ℕ) (at : ℕ) where
   cut-good : CutShort file at → (i : ℕ) → EndsWith file at i → ⊥
   cut-good c i w = let q = stop-same (c .0) i (stop-cut c) (stop-good i w) in omega (arith, c .3, w .2, q)
 
-  -- a number that ends well is read
-  pub number-good : (i : ℕ) → EndsWith file at i → number file at ≡ readTo i
-  number-good i w = elim form [
+  -- a numeral that ends well is read
+  pub numeral-good : (i : ℕ) → EndsWith file at i → numeral file at ≡ readTo i
+  numeral-good i w = elim form [
     | misshapen p e ↦ absurd (misshapen-good p i w)
     | cut c e ↦ absurd (cut-good c i w)
     | good j u e ↦ e ∙ ap readTo (stop-same j i (stop-good j u) (stop-good i w))
   ]
 
   -- and one that is read ends well
-  pub number-ends : number file at .number ≡ 0 → (i : ℕ) × EndsWith file at i
-  number-ends z = elim form [
+  pub numeral-ends : numeral file at .number ≡ 0 → (i : ℕ) × EndsWith file at i
+  numeral-ends z = elim form [
     | misshapen p e ↦ absurd (omega (arith, ap (λ (g : Got). g .number) e))
     | cut c e ↦ absurd (omega (arith, ap (λ (g : Got). g .number) e))
     | good i w e ↦ (i, w)
   ]
 
   -- 14, 15 or neither
-  pub given-form : Given (number file at .number) (formRows file at)
+  pub given-form : Given (numeral file at .number) (formRows file at)
   given-form = elim form [
     | misshapen p e ↦ let z = ap (λ (g : Got). g .number) e in
         given-two _ (λ _. p, λ _. z) (λ q. absurd (omega arith), λ c. absurd (misshapen-cut p c)) (inr (inl z))

@@ -9,11 +9,11 @@ use Rattle.answers.specs.declared.Answer.{Answer}
 use Rattle.answers.specs.declared.Answer as layers
 use Rattle.moves.specs.Moves.{Outcome}
 use Rattle.moves.specs.Parts.{outcomeOf}
-use Rattle.jobfile.specs.Number.{Got, number}
+use Rattle.jobfile.specs.Numeral.{Got, numeral}
 use Rattle.jobfile.specs.File.{Read}
 use Rattle.jobfile.specs.Answers.{readOf, gotOf}
-use Rattle.jobfile.specs.declared.Number.{Number}
-use Rattle.jobfile.specs.declared.Number.the-variants.{Value, Refused}
+use Rattle.jobfile.specs.declared.Numeral.{Numeral}
+use Rattle.jobfile.specs.declared.Numeral.the-variants.{Value, Refused}
 use Rattle.jobfile.specs.declared.FileAnswer.{FileAnswer}
 use Rattle.jobfile.proofs.Groups.{place-some}
 use Rattle.jobreader.specs.Reading.{placeAfter, Stepped, Next, JobRead}
@@ -106,30 +106,30 @@ c-texted z =
       o .lent,
     )) (λ x. refl) z
 
--- a number read: a value comes with a place behind it, so it is no refusal
+-- a numeral read: a value comes with a place behind it, so it is no refusal
 module _ (file : List ℕ) (at : ℕ) where
-  no-mix : (v p n : ℕ) → gotOf (Value v p) ≡ number file at → gotOf (Refused n) ≡ number file at → ⊥
-  unfolding gotOf number
+  no-mix : (v p n : ℕ) → gotOf (Value v p) ≡ numeral file at → gotOf (Refused n) ≡ numeral file at → ⊥
+  unfolding gotOf numeral
   no-mix v p n a b =
       omega (arith, place-some 3 file at 0 1 (sym (ap (λ (g : Got). g .number) a)), ap (λ (g : Got). g .place) b)
 
-  one-number : (m n : Number) → gotOf m ≡ number file at → gotOf n ≡ number file at → m ≡ n
+  one-numeral : (m n : Numeral) → gotOf m ≡ numeral file at → gotOf n ≡ numeral file at → m ≡ n
   unfolding gotOf
-  one-number (Value v p) (Value w q) a b = ap (λ (g : Got). Value (g .value) (g .place)) (a ∙ sym b)
-  one-number (Value v p) (Refused n) a b = absurd (no-mix v p n a b)
-  one-number (Refused m) (Value w q) a b = absurd (no-mix w q m b a)
-  one-number (Refused m) (Refused n) a b = ap (λ (g : Got). Refused (g .number)) (a ∙ sym b)
+  one-numeral (Value v p) (Value w q) a b = ap (λ (g : Got). Value (g .value) (g .place)) (a ∙ sym b)
+  one-numeral (Value v p) (Refused n) a b = absurd (no-mix v p n a b)
+  one-numeral (Refused m) (Value w q) a b = absurd (no-mix w q m b a)
+  one-numeral (Refused m) (Refused n) a b = ap (λ (g : Got). Refused (g .number)) (a ∙ sym b)
 
 one-step : (file : List ℕ) (at : ℕ) → One (λ (r : Step). Stepped file at r)
 one-step file at x y p q =
-    let e = one-number file at (x .number) (y .number) (p .got-is) (q .got-is) in
-    let f : x .at ≡ y .at = p .at-is ∙ ap (λ (n : Number). placeAfter n at) e ∙ sym (q .at-is) in
-    λ i. record { number = e i; at = f i }
+    let e = one-numeral file at (x .numeral) (y .numeral) (p .got-is) (q .got-is) in
+    let f : x .at ≡ y .at = p .at-is ∙ ap (λ (n : Numeral). placeAfter n at) e ∙ sym (q .at-is) in
+    λ i. record { numeral = e i; at = f i }
 
-one-next : (reader : Reader) → One (λ ((n, after) : Number × Reader). Next reader n after)
+one-next : (reader : Reader) → One (λ ((n, after) : Numeral × Reader). Next reader n after)
 one-next reader (m, x) (n, y) p q =
-    let e = one-number (now (reader .file)) (reader .at) m n (p .got-is) (q .got-is) in
-    let f : x .at ≡ y .at = p .at-is ∙ ap (λ (k : Number). placeAfter k (reader .at)) e ∙ sym (q .at-is) in
+    let e = one-numeral (now (reader .file)) (reader .at) m n (p .got-is) (q .got-is) in
+    let f : x .at ≡ y .at = p .at-is ∙ ap (λ (k : Numeral). placeAfter k (reader .at)) e ∙ sym (q .at-is) in
     let g : x .file ≡ y .file = p .file-is ∙ sym (q .file-is) in
     λ i. (e i, record { file = g i; at = f i })
 

@@ -19,7 +19,7 @@ use Rattle.moves.specs.Phases.{budgeted}
 use Rattle.copies.specs.Copies.{copyList, copied}
 use Rattle.shuffle.specs.Shuffle.{shuffled}
 use Rattle.runs.specs.Run.{ran}
-use Rattle.jobfile.specs.Number.{number}
+use Rattle.jobfile.specs.Numeral.{numeral}
 use Rattle.jobfile.specs.File.{fileRacks, fileBytes, read}
 use Rattle.jobreader.specs.Reading.{ahead, JobRead}
 use Rattle.jobreader.specs.declared.Reader.{Reader}
@@ -56,10 +56,10 @@ pub record Demand1 : Type 0 where
   pub from-start : (reader : Reader) → reader .at ≡ 0 → ahead reader ≡ now (reader .file)
   pub behind-end : (reader : Reader) (caps places : List ℕ) → length (now (reader .file)) ≤ reader .at → read (ahead reader) caps places .answer .number ≡ 15
   pub list-job : (file lent : List ℕ) → Given (printed file lent .answer .number) ((13, TooShort lent (listing file)) ∷ [])
-  -- one number of a file: 14, 15, or its value by its groups and the place behind the last
-  pub form : (file : List ℕ) (at : ℕ) → Given (number file at .number) (formRows file at)
-  pub ends : (file : List ℕ) (at : ℕ) → number file at .number ≡ 0 → (i : ℕ) × EndsWith file at i
-  pub value : (file : List ℕ) (at i : ℕ) → EndsWith file at i → number file at ≡ record { number = 0; value = valueOf file at i; place = at + i + 1 }
+  -- one numeral of a file: 14, 15, or its value by its groups and the place behind the last
+  pub form : (file : List ℕ) (at : ℕ) → Given (numeral file at .number) (formRows file at)
+  pub ends : (file : List ℕ) (at : ℕ) → numeral file at .number ≡ 0 → (i : ℕ) × EndsWith file at i
+  pub value : (file : List ℕ) (at i : ℕ) → EndsWith file at i → numeral file at ≡ record { number = 0; value = valueOf file at i; place = at + i + 1 }
   -- the program looks at 18 before all else; its text says `refused n`, or is that of a run
   pub shelve-refuses : (file : List ℕ) (n : ℕ) → Holds n ((18, FileTooLarge file) ∷ fileRows file) → listing file ≡ refusedLine n
   pub shelve-runs : (file : List ℕ) → None ((18, FileTooLarge file) ∷ fileRows file) → listing file ≡ runText (fileRacks file) (fileBytes file) (fileHeld file)

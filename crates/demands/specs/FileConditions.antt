@@ -6,12 +6,12 @@ use Prim.Native.Nat.{ℕ, zero, suc, _+_, _-_, _*_, _^_, _≤_, _<_}
 use lib.ListN.{length, getD}
 use Rattle.counting.specs.Count.{sum}
 use Rattle.racks.specs.Racks.{Rack, ofCaps, slots}
-use Rattle.jobfile.specs.Number.{number}
+use Rattle.jobfile.specs.Numeral.{numeral}
 use Rattle.jobfile.specs.File.{readN, readB, readM, fileRacks, fileBytes, filePlaces, fileCards}
 use Rattle.demands.specs.Rows.{Row, _then_}
 use Rattle.demands.specs.Conditions.{UserSlot, WrongN, WrongB, TooMany, TwoNameOne}
 
--- group i of the number at a place follows: each group before it is in the file and has its top bit set
+-- group i of the numeral at a place follows: each group before it is in the file and has its top bit set
 abbrev pub Follows : List ℕ → ℕ → ℕ → Type 0
 Follows file at i = (j : ℕ) → j < i → (at + j < length file) × (128 ≤ getD file (at + j) 0)
 
@@ -27,7 +27,7 @@ TooLong file at = Follows file at 3
 abbrev pub CutShort : List ℕ → ℕ → Type 0
 CutShort file at = (i : ℕ) × (i < 3) × Follows file at i × (length file ≤ at + i)
 
--- the number ends well with group i: its top bit is not set, and it is not 0 unless it is the only one
+-- the numeral ends well with group i: its top bit is not set, and it is not 0 unless it is the only one
 abbrev pub EndsWith : List ℕ → ℕ → ℕ → Type 0
 EndsWith file at i = (i < 3) × Follows file at i × (at + i < length file) × (getD file (at + i) 0 < 128) × ((i ≡ 0) ⊎ (getD file (at + i) 0 ≢ 0))
 
@@ -35,7 +35,7 @@ EndsWith file at i = (i < 3) × Follows file at i × (at + i < length file) × (
 unfoldable pub sevenBits : List ℕ → ℕ → ℕ → ℕ
 sevenBits file at j = (getD file (at + j) 0 - 128) * 128 ^ j
 
--- the value of a number that ends with group i
+-- the value of a numeral that ends with group i
 unfoldable pub valueOf : List ℕ → ℕ → ℕ → ℕ
 valueOf file at i = sum i (sevenBits file at) + getD file (at + i) 0 * 128 ^ i
 
@@ -43,7 +43,7 @@ valueOf file at i = sum i (sevenBits file at) + getD file (at + i) 0 * 128 ^ i
 abbrev pub WrongFileEntry : List Rack → ℕ → Type 0
 WrongFileEntry racks x = (x ≢ 0) × (¬ UserSlot racks (x - 1))
 
--- the rows of the number at a place: its form
+-- the rows of the numeral at a place: its form
 abbrev pub formRows : List ℕ → ℕ → List Row
 formRows file at = (14, Padded file at ⊎ TooLong file at) ∷ (15, CutShort file at) ∷ []
 
@@ -60,20 +60,20 @@ askM before m = (3, TooMany (ofCaps (before ++ m ∷ []))) ∷ []
 abbrev pub askEntry : List Rack → List ℕ → ℕ → List Row
 askEntry racks before x = (5, WrongFileEntry racks x) ∷ []
 
--- the rows of n numbers from a place on, each checked as read: its form, then its value
-unfoldable pub numberRows : (List ℕ → ℕ → List Row) → ℕ → List ℕ → ℕ → List ℕ → List Row
-numberRows ask zero file at before = []
-numberRows ask (suc n) file at before =
-    let x = number file at in
-    formRows file at then ask before (x .value) then numberRows ask n file (x .place) (before ++ x .value ∷ [])
+-- the rows of n numerals from a place on, each checked as read: its form, then its value
+unfoldable pub numeralRows : (List ℕ → ℕ → List Row) → ℕ → List ℕ → ℕ → List ℕ → List Row
+numeralRows ask zero file at before = []
+numeralRows ask (suc n) file at before =
+    let x = numeral file at in
+    formRows file at then ask before (x .value) then numeralRows ask n file (x .place) (before ++ x .value ∷ [])
 
 -- the rows of a file: N, B, the m_p, the entries; after the last entry 6, then 15 or 16 for the card bytes
 abbrev pub fileRows : List ℕ → List Row
 fileRows file =
-    numberRows askN 1 file 0 []
-    then numberRows askB 1 file (readN file .place) []
-    then numberRows askM (getD (readN file .values) 0 0) file (readB file .place) []
-    then numberRows (askEntry (fileRacks file)) (slots (fileRacks file)) file (readM file .place) []
+    numeralRows askN 1 file 0 []
+    then numeralRows askB 1 file (readN file .place) []
+    then numeralRows askM (getD (readN file .values) 0 0) file (readB file .place) []
+    then numeralRows (askEntry (fileRacks file)) (slots (fileRacks file)) file (readM file .place) []
     then (6, TwoNameOne (filePlaces file))
     ∷ (15, length (fileCards file) < slots (fileRacks file) * fileBytes file)
     ∷ (16, slots (fileRacks file) * fileBytes file < length (fileCards file))

@@ -23,7 +23,7 @@ use Rattle.shuffle.specs.Shuffle.{shuffled}
 use Rattle.runs.specs.Run.{ran}
 use Rattle.jobfile.specs.File.{read}
 use Rattle.jobfile.specs.Answers.{cardsOf, readOf}
-use Rattle.jobfile.specs.declared.Number.{Number}
+use Rattle.jobfile.specs.declared.Numeral.{Numeral}
 use Rattle.jobfile.specs.declared.FileAnswer.{FileAnswer}
 use Rattle.jobreader.specs.Reading.{Stepped, Next, JobRead}
 use Rattle.jobreader.specs.declared.Reader.{Reader}
@@ -70,7 +70,7 @@ pub record OneOutcome : Type 0 where
   pub card-bytes : (file : List ℕ) (found : FileAnswer) → OneSeen now (λ (r : RefT (List ℕ)). now r ≡ cardsOf found file)
   pub step-at : (file : List ℕ) (at : ℕ) → One (λ (r : Step). Stepped file at r)
   pub new : (file : RefT (List ℕ)) → One (λ (r : Reader). (r .file ≡ file) × (r .at ≡ 0))
-  pub next : (reader : Reader) → One (λ ((n, reader′) : Number × Reader). Next reader n reader′)
+  pub next : (reader : Reader) → One (λ ((n, reader′) : Numeral × Reader). Next reader n reader′)
   pub read-job : (reader : Reader) (caps places : List ℕ)
       → OneSeen jobSeen (λ ((job, caps′, places′) : JobFile × List ℕ × List ℕ). JobRead reader caps places job caps′ places′)
   -- the small ones: a job of capacities, counts, answers

@@ -23,7 +23,7 @@ use Rattle.moves.specs.Phases.{phasesFrom, phases, budget, budgeted}
 use Rattle.copies.specs.Copies.{next, source, after, onward, back, onCycle, head, factor, factorsFrom, factors, shift, cycle, copies, copyList}
 use Rattle.shuffle.specs.Shuffle.{taken, laid, runCopies, brought, isNamed, lastEntry, lastCard, settledHeld}
 use Rattle.runs.specs.Run.{gathered, hasPairs, counts}
-use Rattle.jobfile.specs.Number.{groups, number, numbers}
+use Rattle.jobfile.specs.Numeral.{groups, numeral, numerals}
 use Rattle.jobfile.specs.File.{wrongN, wrongB, wrongM, wrongEntry, entryOf, readN, readB, readM, fileRacks, readEntries, fileBytes, filePlaces, fileCards, fileChecks}
 use Rattle.texts.specs.Text.{digit, digits, decimal, hex}
 use Rattle.texts.specs.Lines.{slotText, arrow, phaseLine, phaseLines, copiesLine, cardText, cardsLine, endLine, refusedLine}
@@ -71,12 +71,12 @@ refuses racks h m n = moved racks 1 h m ≡ record { answer = answer n noCounts;
 abbrev checks : List Rack → List ℕ → ℕ → Type 0
 checks racks places n = checked racks places ≡ answer n noCounts
 
--- a number read, and a file refused
+-- a numeral read, and a file refused
 abbrev reads : List ℕ → ℕ → ℕ → Type 0
-reads file value place = number file 0 ≡ record { number = 0; value = value; place = place }
+reads file value place = numeral file 0 ≡ record { number = 0; value = value; place = place }
 
-abbrev refusesNumber : List ℕ → ℕ → Type 0
-refusesNumber file n = number file 0 ≡ record { number = n; value = 0; place = 0 }
+abbrev refusesNumeral : List ℕ → ℕ → Type 0
+refusesNumeral file n = numeral file 0 ≡ record { number = n; value = 0; place = 0 }
 
 -- a job has these phases and, when they are carried, this copy list
 abbrev runs : List Rack → List ℕ → List (List Pair) → List Pair → Type 0
@@ -125,13 +125,13 @@ pub record Paper : Type 0 where
   pub seven-spare : checks racks4 (3 ∷ FREE ∷ 0 ∷ FREE ∷ []) 5
   pub seven-twice : checks racks4 (0 ∷ FREE ∷ 0 ∷ FREE ∷ []) 6
   pub seven-both : checks racks3 (2 ∷ 2 ∷ FREE ∷ []) 5
-  -- 8: numbers
+  -- 8: numerals
   pub eight-128 : reads (0x80 ∷ 0x01 ∷ []) 128 2
   pub eight-16384 : reads (0x80 ∷ 0x80 ∷ 0x01 ∷ []) 16384 3
-  pub eight-padded : refusesNumber (0x80 ∷ 0x00 ∷ []) 14
-  pub eight-cut : refusesNumber (0x80 ∷ []) 15
-  pub eight-long : refusesNumber (0x80 ∷ 0x80 ∷ 0x80 ∷ []) 14
+  pub eight-padded : refusesNumeral (0x80 ∷ 0x00 ∷ []) 14
+  pub eight-cut : refusesNumeral (0x80 ∷ []) 15
+  pub eight-long : refusesNumeral (0x80 ∷ 0x80 ∷ 0x80 ∷ []) 14
 
 pub paper : Paper
-unfolding _and_ _or_ sum count some select seek table join each pairUp flat matching among last first ofCaps rackAt users width total base slots endsBy rackOf spareOf isUser free settled rackTo onRack away aways awayTo bound owes freeOn names badCount badBytes tooLarge badSize badPlaces badCards badEntry badEntries repeats badTwice noSlot sourceFree sourceHome elsewhere targetTaken someAway tooShort tableChecks cardChecks checked other sources lowest granted openSlots room arrivals planFor plan block putBlock blank movedPlaces movedCards carriedPlaces carriedCards endChecks moveChecks moved phasesFrom phases budget budgeted next source after onward back onCycle head factor factorsFrom factors shift cycle copies copyList taken laid runCopies brought isNamed lastEntry lastCard settledHeld gathered hasPairs counts groups number numbers wrongN wrongB wrongM wrongEntry entryOf readN readB readM fileRacks readEntries fileBytes filePlaces fileCards fileChecks digit digits decimal hex slotText arrow phaseLine phaseLines copiesLine cardText cardsLine endLine refusedLine programChecks fileHeld runText listing
+unfolding _and_ _or_ sum count some select seek table join each pairUp flat matching among last first ofCaps rackAt users width total base slots endsBy rackOf spareOf isUser free settled rackTo onRack away aways awayTo bound owes freeOn names badCount badBytes tooLarge badSize badPlaces badCards badEntry badEntries repeats badTwice noSlot sourceFree sourceHome elsewhere targetTaken someAway tooShort tableChecks cardChecks checked other sources lowest granted openSlots room arrivals planFor plan block putBlock blank movedPlaces movedCards carriedPlaces carriedCards endChecks moveChecks moved phasesFrom phases budget budgeted next source after onward back onCycle head factor factorsFrom factors shift cycle copies copyList taken laid runCopies brought isNamed lastEntry lastCard settledHeld gathered hasPairs counts groups numeral numerals wrongN wrongB wrongM wrongEntry entryOf readN readB readM fileRacks readEntries fileBytes filePlaces fileCards fileChecks digit digits decimal hex slotText arrow phaseLine phaseLines copiesLine cardText cardsLine endLine refusedLine programChecks fileHeld runText listing
 paper = record { shelve = refl; budget4 = refl; one-left = refl; budget0 = refl; budget9 = refl; three = (refl, refl); four = (refl, refl); five = (refl, refl); six-10 = refl; six-8 = refl; six-7 = refl; six-11 = refl; six-9 = refl; seven-spare = refl; seven-twice = refl; seven-both = refl; eight-128 = refl; eight-16384 = refl; eight-padded = refl; eight-cut = refl; eight-long = refl }

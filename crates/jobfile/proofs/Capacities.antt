@@ -18,10 +18,10 @@ use Rattle.counting.proofs.Checks.{first-here, first-later, first-none}
 use Rattle.racks.specs.Racks.{ofCaps, users, total}
 use Rattle.racks.specs.Numbers.{badSize, tooLarge}
 use Rattle.racks.proofs.Caps.{length-caps, users-caps, size-rack, size-all, size-good, total-is}
-use Rattle.jobfile.specs.Number.{refused, numbers}
+use Rattle.jobfile.specs.Numeral.{refused, numerals}
 use Rattle.jobfile.specs.File.{wrongM}
 use Rattle.jobfile.specs.Parts.{between, outside, room, takenOf, CapsRead}
-use Rattle.jobfile.proofs.Numbers.{got, reading, passed-good, refused-by, numbers-go, numbers-stop, inside, outside-none, outside-high}
+use Rattle.jobfile.proofs.Numerals.{got, reading, passed-good, refused-by, numerals-go, numerals-stop, inside, outside-none, outside-high}
 
 -- capacities that are in order so far
 module _ (caps : List ℕ) (good : badSize (ofCaps caps) ≡ false) where
@@ -100,7 +100,7 @@ pub record Capping (file : List ℕ) (at n p place sum : ℕ) (caps : List ℕ) 
   pub long : length caps ≡ 64
   pub sum-is : sum ≡ total (ofCaps (take p caps))
   pub good : badSize (ofCaps (take p caps)) ≡ false
-  pub left : numbers wrongM (n - p) file place (take p caps) ≡ numbers wrongM n file at []
+  pub left : numerals wrongM (n - p) file place (take p caps) ≡ numerals wrongM n file at []
 
 total-none : 0 ≡ total (ofCaps [])
 total-none = sym (sum-zero _) ∙ total-is (ofCaps []) 0 (sym (length-caps []))
@@ -126,8 +126,8 @@ module _ (file : List ℕ) (at n : ℕ) (caps : List ℕ) where
       one-left : n - p ≡ suc (n - (p + 1))
       one-left = omega arith
 
-      left-suc : numbers wrongM (suc (n - (p + 1))) file place (take p caps) ≡ numbers wrongM n file at []
-      left-suc = ap (λ (k : ℕ). numbers wrongM k file place (take p caps)) (sym one-left) ∙ c .left
+      left-suc : numerals wrongM (suc (n - (p + 1))) file place (take p caps) ≡ numerals wrongM n file at []
+      left-suc = ap (λ (k : ℕ). numerals wrongM k file place (take p caps)) (sym one-left) ∙ c .left
 
       module _ (m next : ℕ) (e : got m next ≡ between 0 (room sum) 3 file place) where
         -- it is at most 1,023, and the running total at most 4,032
@@ -148,7 +148,7 @@ module _ (file : List ℕ) (at n : ℕ) (caps : List ℕ) where
               long = length-set caps p m ∙ c .long;
               sum-is = rw t (omega (arith, c .sum-is, total-after (take p caps) m));
               good = rw t g;
-              left = rw t (sym (numbers-go file place wrongM (n - (p + 1)) (take p caps) (outside 0 (room sum) 3) m next e (wrong-0 (take p caps) m (c .good) g)) ∙ left-suc);
+              left = rw t (sym (numerals-go file place wrongM (n - (p + 1)) (take p caps) (outside 0 (room sum) 3) m next e (wrong-0 (take p caps) m (c .good) g)) ∙ left-suc);
             }
 
       as-bad : (m : ℕ) → (outside 0 (room sum) 3 m ≡ 0 → ⊥) → wrongM (take p caps) m ≡ outside 0 (room sum) 3 m
@@ -168,19 +168,19 @@ module _ (file : List ℕ) (at n : ℕ) (caps : List ℕ) where
       capping-stop k e =
           let f = refused-by file place (outside 0 (room sum) 3) k e .1 in
           record {
-            is = rw (ne-eqb k 0 f) (sym (numbers-stop file place wrongM (n - (p + 1)) (take p caps) (outside 0 (room sum) 3) as-bad k e) ∙ left-suc);
+            is = rw (ne-eqb k 0 f) (sym (numerals-stop file place wrongM (n - (p + 1)) (take p caps) (outside 0 (room sum) 3) as-bad k e) ∙ left-suc);
             good = λ z. absurd (f z);
             long = c .long;
           }
 
     -- all are read
     pub capping-done : n ≤ p → CapsRead file at n (record { number = 0; place = place }) caps
-    unfolding numbers takenOf
+    unfolding numerals takenOf
     capping-done l =
         let e : p ≡ n = omega (arith, c .few) in
         let z : n - p ≡ 0 = omega arith in
         record {
-          is = ap (λ (q : ℕ). reading (take q caps) place) (sym e) ∙ ap (λ (k : ℕ). numbers wrongM k file place (take p caps)) (sym z) ∙ c .left;
+          is = ap (λ (q : ℕ). reading (take q caps) place) (sym e) ∙ ap (λ (k : ℕ). numerals wrongM k file place (take p caps)) (sym z) ∙ c .left;
           good = λ _. subst (λ (q : ℕ). badSize (ofCaps (take q caps)) ≡ false) e (c .good);
           long = c .long;
         }

@@ -25,14 +25,14 @@ use Rattle.racks.proofs.Geometry.{user-none}
 use Rattle.tables.specs.Tables.{Marked}
 use Rattle.tables.specs.Marks.{Entered, worse}
 use Rattle.tables.proofs.Marks.{Passed, passed-none, passed-cong, passed-more, bad-5, clean-5}
-use Rattle.jobfile.specs.Number.{refused, Numbers, numbers}
+use Rattle.jobfile.specs.Numeral.{refused, Numerals, numerals}
 use Rattle.jobfile.specs.File.{wrongEntry, entryOf}
 use Rattle.jobfile.specs.Parts.{between, outside, entries, entriesChecks, EntriesRead}
-use Rattle.jobfile.proofs.Numbers.{got, stopped, reading, passed-good, refused-by, numbers-go, numbers-stop, numbers-bad, inside, outside-none, outside-high}
+use Rattle.jobfile.proofs.Numerals.{got, stopped, reading, passed-good, refused-by, numerals-go, numerals-stop, numerals-bad, inside, outside-none, outside-high}
 
 -- an entry of the file is wrong where the table's entry is bad
 module _ (racks : List Rack) (x : ℕ) where
-  -- 5 by the number in the file
+  -- 5 by the numeral in the file
   abbrev pub wrong-file : Bool
   wrong-file = not (eqb x 0) and not (isUser racks (x - 1))
 
@@ -81,7 +81,7 @@ pub record Entering (racks : List Rack) (file : List ℕ) (at g place : ℕ) (pl
   pub raw : List ℕ
   pub count : length raw ≡ g
   pub kept : take g places ≡ each entryOf raw
-  pub left : numbers (wrongEntry racks) (slots racks - g) file place raw ≡ entries racks file at
+  pub left : numerals (wrongEntry racks) (slots racks - g) file place raw ≡ entries racks file at
   pub passed : Passed racks (each entryOf raw) marks worst g
   pub long : length places ≡ 4096
 
@@ -113,10 +113,10 @@ module _ (racks : List Rack) (file : List ℕ) (at : ℕ) (places marks : List �
 
   module _ (g place worst : ℕ) (c : Entering racks file at g place places marks worst) where
     module _ (small : slots racks ≤ 4096) (l : g < slots racks) where
-      left-suc : numbers (wrongEntry racks) (suc (slots racks - (g + 1))) file place (c .raw) ≡ entries racks file at
+      left-suc : numerals (wrongEntry racks) (suc (slots racks - (g + 1))) file place (c .raw) ≡ entries racks file at
       left-suc =
           let one : suc (slots racks - (g + 1)) ≡ slots racks - g = omega arith in
-          ap (λ (k : ℕ). numbers (wrongEntry racks) k file place (c .raw)) one ∙ c .left
+          ap (λ (k : ℕ). numerals (wrongEntry racks) k file place (c .raw)) one ∙ c .left
 
       as-bad : (v : ℕ) → (outside 0 4096 5 v ≡ 0 → ⊥) → wrongEntry racks (c .raw) v ≡ outside 0 4096 5 v
       as-bad v f = elim (decLe v 4096) [
@@ -129,7 +129,7 @@ module _ (racks : List Rack) (file : List ℕ) (at : ℕ) (places marks : List �
       unfolding between
       entering-stop k e =
           stopped-read k (refused-by file place (outside 0 4096 5) k e .1) (c .long)
-          (sym (numbers-stop file place (wrongEntry racks) (slots racks - (g + 1)) (c .raw) (outside 0 4096 5) as-bad k e) ∙ left-suc)
+          (sym (numerals-stop file place (wrongEntry racks) (slots racks - (g + 1)) (c .raw) (outside 0 4096 5) as-bad k e) ∙ left-suc)
 
       -- one is between the limits
       module _ (x next : ℕ) (e : got x next ≡ between 0 4096 5 file place) where
@@ -157,7 +157,7 @@ module _ (racks : List Rack) (file : List ℕ) (at : ℕ) (places marks : List �
           unfolding between
           entering-5 q =
               stopped-read 5 (λ z. omega arith) (c .long)
-              (sym (numbers-bad file place (wrongEntry racks) (slots racks - (g + 1)) (c .raw) (outside 0 4096 5) x next 5 e
+              (sym (numerals-bad file place (wrongEntry racks) (slots racks - (g + 1)) (c .raw) (outside 0 4096 5) x next 5 e
               (wrong-5 racks x (c .raw) (sym bad-now ∙ bad-5 racks small now g marks worst passed-now n after entered-now q)) (λ z. omega arith)) ∙ left-suc)
 
           -- else one more is read
@@ -175,7 +175,7 @@ module _ (racks : List Rack) (file : List ℕ) (at : ℕ) (places marks : List �
                     ∙ ap (λ (v : ℕ). each entryOf (c .raw) ++ v ∷ []) ey
                     ∙ sym (more-is (c .raw) x g (c .count));
                 left =
-                    sym (numbers-go file place (wrongEntry racks) (slots racks - (g + 1)) (c .raw) (outside 0 4096 5) x next e
+                    sym (numerals-go file place (wrongEntry racks) (slots racks - (g + 1)) (c .raw) (outside 0 4096 5) x next e
                     (wrong-0 racks x (c .raw) (sym bad-now ∙ clean-5 racks small now g marks worst passed-now n after entered-now f))) ∙ left-suc;
                 passed = passed-more racks small now g marks worst passed-now n after entered-now f;
                 long = length-set places g y ∙ c .long;
@@ -183,14 +183,14 @@ module _ (racks : List Rack) (file : List ℕ) (at : ℕ) (places marks : List �
 
     -- all are read
     pub entering-done : slots racks ≤ g → EntriesRead racks file at (record { number = worst; place = place }) places
-    unfolding numbers entriesChecks badTwice first
+    unfolding numerals entriesChecks badTwice first
     entering-done l =
         let e : g ≡ slots racks = omega (arith, c .few) in
         let z : slots racks - g ≡ 0 = omega arith in
-        let r : reading (c .raw) place ≡ entries racks file at = ap (λ (k : ℕ). numbers (wrongEntry racks) k file place (c .raw)) (sym z) ∙ c .left in
+        let r : reading (c .raw) place ≡ entries racks file at = ap (λ (k : ℕ). numerals (wrongEntry racks) k file place (c .raw)) (sym z) ∙ c .left in
         record {
           number-is = rw (← r) (c .passed .worst-is ∙ ap (λ (k : ℕ). pick (some k (repeats (each entryOf (c .raw)))) 6 0) (sym (length-each entryOf (c .raw) ∙ c .count)));
-          place-is = λ _. ap (λ (y : Numbers). y .place) r;
-          places-are = λ _. ap (λ (k : ℕ). take k places) (sym e) ∙ c .kept ∙ ap (λ (y : Numbers). each entryOf (y .values)) r;
+          place-is = λ _. ap (λ (y : Numerals). y .place) r;
+          places-are = λ _. ap (λ (k : ℕ). take k places) (sym e) ∙ c .kept ∙ ap (λ (y : Numerals). each entryOf (y .values)) r;
           long = c .long;
         }

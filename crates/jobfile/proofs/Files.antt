@@ -22,7 +22,7 @@ use Rattle.racks.specs.declared.Job.{Job}
 use Rattle.answers.specs.declared.Answer.{Answer}
 use Rattle.racks.proofs.Caps.{slots-small}
 use Rattle.racks.proofs.Jobs.{job-good, caps-again, caps-sound}
-use Rattle.jobfile.specs.Number.{Numbers}
+use Rattle.jobfile.specs.Numeral.{Numerals}
 use Rattle.jobfile.specs.File.{entryOf, readN, readB, readM, readEntries, fileRacks, fileBytes, filePlaces, fileCards, fileChecks, readChecks, read}
 use Rattle.jobfile.specs.Answers.{cardsOf, readOf, refusedFile, doneFile, fileAnswer}
 use Rattle.jobfile.specs.Parts.{headChecks, Headed, entries, entriesChecks, EntriesRead, leftOf, endNumber, Parsed}
@@ -150,7 +150,7 @@ module _ (file : List ℕ) (head : Head) (caps : List ℕ) (h : Headed file head
     pub taken-places : taken .number ≡ 0 → take (job .slots) places ≡ filePlaces file
     unfolding filePlaces
     taken-places z =
-        ap (λ (n : ℕ). take n places) (job-slots ∙ ap slots (sym job-racks)) ∙ r .places-are z ∙ ap (λ (x : Numbers). each entryOf (x .values)) entries-are
+        ap (λ (n : ℕ). take n places) (job-slots ∙ ap slots (sym job-racks)) ∙ r .places-are z ∙ ap (λ (x : Numerals). each entryOf (x .values)) entries-are
 
 -- the answer, by its number
 module _ (file : List ℕ) (n : ℕ) where

@@ -16,21 +16,21 @@ use Rattle.racks.specs.Racks.{ofCaps}
 use Rattle.racks.specs.Numbers.{badCount, badBytes}
 use Rattle.racks.specs.Job.{rackChecks}
 use Rattle.racks.proofs.Caps.{length-caps, count-good, checks-0}
-use Rattle.jobfile.specs.Number.{refused, Numbers, numbers}
+use Rattle.jobfile.specs.Numeral.{refused, Numerals, numerals}
 use Rattle.jobfile.specs.File.{wrongN, wrongB, wrongM, readN, readB, readM, fileRacks, fileBytes}
 use Rattle.jobfile.specs.Parts.{checkedBy, between, outside, takenOf, CapsRead, noHead, headChecks, HeadRead}
 use Rattle.jobfile.specs.declared.parts.Taken.{Taken}
 use Rattle.jobfile.specs.declared.parts.Head.{Head}
-use Rattle.jobfile.proofs.Numbers.{got, stopped, reading, alone, passed-good, refused-by, numbers-go, numbers-stop, inside}
+use Rattle.jobfile.proofs.Numerals.{got, stopped, reading, alone, passed-good, refused-by, numerals-go, numerals-stop, inside}
 
--- one number
+-- one numeral
 module _ (file : List ℕ) (at : ℕ) (bad : List ℕ → ℕ → ℕ) (f : ℕ → ℕ) (same : (v : ℕ) → bad [] v ≡ f v) where
-  one-value : (v p : ℕ) → got v p ≡ checkedBy f file at → numbers bad 1 file at [] ≡ reading (v ∷ []) p
-  unfolding numbers
-  one-value v p e = numbers-go file at bad 0 [] f v p e (same v ∙ passed-good file at f v p e)
+  one-value : (v p : ℕ) → got v p ≡ checkedBy f file at → numerals bad 1 file at [] ≡ reading (v ∷ []) p
+  unfolding numerals
+  one-value v p e = numerals-go file at bad 0 [] f v p e (same v ∙ passed-good file at f v p e)
 
-  one-refused : (n : ℕ) → refused n ≡ checkedBy f file at → numbers bad 1 file at [] ≡ stopped n
-  one-refused n e = numbers-stop file at bad 0 [] f (λ v _. same v) n e
+  one-refused : (n : ℕ) → refused n ≡ checkedBy f file at → numerals bad 1 file at [] ≡ stopped n
+  one-refused n e = numerals-stop file at bad 0 [] f (λ v _. same v) n e
 
 -- 0 is what is below 1
 below-one : (v : ℕ) → eqb v 0 ≡ ltb v 1
@@ -60,7 +60,7 @@ module _ (file : List ℕ) (caps : List ℕ) (long : length caps ≡ 64) where
   unfolding between readN headChecks
   head-N n e =
       let f = refused-by file 0 (outside 1 64 1) n e .1 in
-      let r = ap (λ (x : Numbers). x .number) (one-refused file 0 wrongN (outside 1 64 1) same-N n e) in
+      let r = ap (λ (x : Numerals). x .number) (one-refused file 0 wrongN (outside 1 64 1) same-N n e) in
       record {
         number-is = sym (first-here _ _ _ (known _ n r f) ∙ r);
         headed = λ z. absurd (f z);
@@ -79,7 +79,7 @@ module _ (file : List ℕ) (caps : List ℕ) (long : length caps ≡ 64) where
     N-small = inside 1 64 1 n (omega arith) (passed-good file 0 (outside 1 64 1) n p e)
 
     past-N : not (eqb (readN file .number) 0) ≡ false
-    past-N = none _ (ap (λ (x : Numbers). x .number) is-N)
+    past-N = none _ (ap (λ (x : Numerals). x .number) is-N)
 
     -- B is refused
     pub head-B : (k : ℕ) → refused k ≡ between 1 256 2 file p → HeadRead file (noHead k) caps
@@ -87,7 +87,7 @@ module _ (file : List ℕ) (caps : List ℕ) (long : length caps ≡ 64) where
     head-B k e′ =
         let f = refused-by file p (outside 1 256 2) k e′ .1 in
         let r : readB file .number ≡ k =
-        ap (λ (x : Numbers). numbers wrongB 1 file (x .place) [] .number) is-N ∙ ap (λ (x : Numbers). x .number) (one-refused file p wrongB (outside 1 256 2) same-B k e′) in
+        ap (λ (x : Numerals). numerals wrongB 1 file (x .place) [] .number) is-N ∙ ap (λ (x : Numerals). x .number) (one-refused file p wrongB (outside 1 256 2) same-B k e′) in
         record {
           number-is = sym (first-later _ _ _ past-N ∙ first-here _ _ _ (known _ k r f) ∙ r);
           headed = λ z. absurd (f z);
@@ -98,22 +98,22 @@ module _ (file : List ℕ) (caps : List ℕ) (long : length caps ≡ 64) where
     module _ (b q : ℕ) (e′ : got b q ≡ between 1 256 2 file p) (t : Taken) (after : List ℕ) (c : CapsRead file q n t after) where
       is-B : readB file ≡ reading (b ∷ []) q
       unfolding between readB
-      is-B = ap (λ (x : Numbers). numbers wrongB 1 file (x .place) []) is-N ∙ one-value file p wrongB (outside 1 256 2) same-B b q e′
+      is-B = ap (λ (x : Numerals). numerals wrongB 1 file (x .place) []) is-N ∙ one-value file p wrongB (outside 1 256 2) same-B b q e′
 
       is-M : readM file ≡ takenOf t (take n after)
       unfolding readM
-      is-M = ap (λ (x : Numbers). numbers wrongM (getD (x .values) 0 0) file (readB file .place) []) is-N ∙ ap (λ (x : Numbers). numbers wrongM n file (x .place) []) is-B ∙ sym (c .is)
+      is-M = ap (λ (x : Numerals). numerals wrongM (getD (x .values) 0 0) file (readB file .place) []) is-N ∙ ap (λ (x : Numerals). numerals wrongM n file (x .place) []) is-B ∙ sym (c .is)
 
       M-number : readM file .number ≡ t .number
       unfolding takenOf
-      M-number = ap (λ (x : Numbers). x .number) is-M
+      M-number = ap (λ (x : Numerals). x .number) is-M
 
       abbrev made : Head
       made = record { number = t .number; racks = n; bytes = b; place = t .place }
 
       values-M : t .number ≡ 0 → readM file .values ≡ take n after
       unfolding takenOf
-      values-M z = ap (λ (x : Numbers). x .values) is-M ∙ rw (eq-eqb (t .number) 0 z)
+      values-M z = ap (λ (x : Numerals). x .values) is-M ∙ rw (eq-eqb (t .number) 0 z)
 
       racks-M : t .number ≡ 0 → fileRacks file ≡ ofCaps (take n after)
       unfolding fileRacks
@@ -135,13 +135,13 @@ module _ (file : List ℕ) (caps : List ℕ) (long : length caps ≡ 64) where
       head-M =
           record {
             number-is =
-                sym (first-later _ _ _ past-N ∙ first-later _ _ _ (none _ (ap (λ (x : Numbers). x .number) is-B)) ∙ alone (readM file .number) ∙ M-number);
+                sym (first-later _ _ _ past-N ∙ first-later _ _ _ (none _ (ap (λ (x : Numerals). x .number) is-B)) ∙ alone (readM file .number) ∙ M-number);
             headed = λ z. record {
               racks-are = sym (length-M z);
               few = N-small .1;
-              bytes-are = sym (ap (λ (x : Numbers). getD (x .values) 0 0) is-B);
+              bytes-are = sym (ap (λ (x : Numerals). getD (x .values) 0 0) is-B);
               small = inside 1 256 2 b (omega arith) (passed-good file p (outside 1 256 2) b q e′) .1;
-              place-is = sym (ap (λ (x : Numbers). x .place) is-M);
+              place-is = sym (ap (λ (x : Numerals). x .place) is-M);
               caps-are = sym (values-M z);
               good = good-M z;
             };

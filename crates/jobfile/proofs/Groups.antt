@@ -1,4 +1,4 @@
--- Laws of a number in groups of seven bits: by the tests that the code makes, and how large it gets. Assumes nothing.
+-- Laws of a numeral in groups of seven bits: by the tests that the code makes, and how large it gets. Assumes nothing.
 use mathlib.Core.Path.{_≡_, ap, _∙_}
 use mathlib.Core.Bool.{Bool, true, false, not}
 use mathlib.Core.List.{List}
@@ -11,7 +11,7 @@ use lib.ListN.{length, getD}
 use borrow.Author.Tests.{eq-eqb, ne-eqb, le-leb, lt-leb}
 use Rattle.counting.specs.Tests.{_and_, pick}
 use Rattle.counting.proofs.Tests.{and-off-l, and-off-r, both}
-use Rattle.jobfile.specs.Number.{Got, refused, groups, number}
+use Rattle.jobfile.specs.Numeral.{Got, refused, groups, numeral}
 use Rattle.jobfile.specs.Parts.{lastGroup}
 
 -- the last group, by the tests that the code makes
@@ -58,7 +58,7 @@ pub group-14 : (file : List ℕ) (left place value weight : ℕ) → left ≡ 0 
 unfolding groups
 group-14 file left place value weight e = rw e
 
--- how large a number can be with `left` groups to come
+-- how large a numeral can be with `left` groups to come
 pub record Weighed (left value weight : ℕ) : Type 0 where
   pub few : left ≤ 3
   pub first : 3 ≤ left → weight ≤ 1
@@ -85,7 +85,7 @@ weighed-more left value weight y s l w =
 pub product-small : (y weight : ℕ) → y ≤ 128 → weight ≤ 16384 → y * weight ≤ 2097152
 product-small y weight l h = omega (arith, mul-le-mul-right weight l)
 
--- the place behind a number that is read is not 0
+-- the place behind a numeral that is read is not 0
 pub place-some : (more : ℕ) (file : List ℕ) (at value weight : ℕ) → groups more file at value weight .number ≡ 0 → 0 < groups more file at value weight .place
 unfolding groups
 place-some zero file at value weight e = absurd (omega arith)

@@ -21,46 +21,46 @@ use Rattle.racks.specs.Limits.{FREE}
 use Rattle.racks.specs.Numbers.{badCount, badBytes, badSize, badPlaces, badCards, badEntry, badEntries, badTwice, cardChecks}
 use Rattle.racks.proofs.Caps.{length-caps, slots-small, checks-0, racks-few}
 use Rattle.racks.proofs.Geometry.{user-lt}
-use Rattle.jobfile.specs.Number.{number, Numbers, numbers}
+use Rattle.jobfile.specs.Numeral.{numeral, Numerals, numerals}
 use Rattle.jobfile.specs.File.{wrongN, wrongB, wrongM, wrongEntry, entryOf, readN, readB, readM, readEntries, fileRacks, fileBytes, filePlaces, fileCards, fileChecks}
-use Rattle.jobfile.proofs.Numbers.{either, either-0}
+use Rattle.jobfile.proofs.Numerals.{either, either-0}
 use Rattle.jobfile.proofs.Capacities.{size-none}
 use Rattle.jobfile.proofs.Entries.{wrong-file, wrong-same}
 
--- numbers that are not refused
+-- numerals that are not refused
 module _ (bad : List ℕ → ℕ → ℕ) (file : List ℕ) where
-  one-more : (n at : ℕ) (before : List ℕ) → numbers bad (suc n) file at before .number ≡ 0
-      → (numbers bad (suc n) file at before ≡ numbers bad n file (number file at .place) (before ++ number file at .value ∷ [])) × (bad before (number file at .value) ≡ 0)
-  unfolding numbers
+  one-more : (n at : ℕ) (before : List ℕ) → numerals bad (suc n) file at before .number ≡ 0
+      → (numerals bad (suc n) file at before ≡ numerals bad n file (numeral file at .place) (before ++ numeral file at .value ∷ [])) × (bad before (numeral file at .value) ≡ 0)
+  unfolding numerals
   one-more n at before z =
-      let no-0 = either (number file at .number) (bad before (number file at .value)) in
+      let no-0 = either (numeral file at .number) (bad before (numeral file at .value)) in
       by-test (done no-0)
-      (λ t. (rw t, either-0 (number file at .number) (bad before (number file at .value)) (eqb-true no-0 0 t) .1))
+      (λ t. (rw t, either-0 (numeral file at .number) (bad before (numeral file at .value)) (eqb-true no-0 0 t) .1))
       (λ t. absurd (eqb-false no-0 0 t (rw t at z)))
 
-  -- what one number more keeps, all keep
-  numbers-keep : (P : List ℕ → Type 0) → ((b : List ℕ) (x : ℕ) → bad b x ≡ 0 → P b → P (b ++ x ∷ [])) → (n at : ℕ) (before : List ℕ) → P before
-      → numbers bad n file at before .number ≡ 0 → P (numbers bad n file at before .values)
-  numbers-keep P step zero at before p z = unfold numbers in p
-  numbers-keep P step (suc n) at before p z =
+  -- what one numeral more keeps, all keep
+  numerals-keep : (P : List ℕ → Type 0) → ((b : List ℕ) (x : ℕ) → bad b x ≡ 0 → P b → P (b ++ x ∷ [])) → (n at : ℕ) (before : List ℕ) → P before
+      → numerals bad n file at before .number ≡ 0 → P (numerals bad n file at before .values)
+  numerals-keep P step zero at before p z = unfold numerals in p
+  numerals-keep P step (suc n) at before p z =
       let o = one-more n at before z in
-      subst (λ (r : Numbers). P (r .values)) (sym (o .0))
-      (numbers-keep P step n (number file at .place) (before ++ number file at .value ∷ []) (step before (number file at .value) (o .1) p) (sym (ap (λ (r : Numbers). r .number) (o .0)) ∙ z))
+      subst (λ (r : Numerals). P (r .values)) (sym (o .0))
+      (numerals-keep P step n (numeral file at .place) (before ++ numeral file at .value ∷ []) (step before (numeral file at .value) (o .1) p) (sym (ap (λ (r : Numerals). r .number) (o .0)) ∙ z))
 
   -- there are n of them
-  numbers-length : (n at : ℕ) (before : List ℕ) → numbers bad n file at before .number ≡ 0 → length (numbers bad n file at before .values) ≡ n + length before
-  numbers-length zero at before z = unfold numbers in omega arith
-  numbers-length (suc n) at before z =
+  numerals-length : (n at : ℕ) (before : List ℕ) → numerals bad n file at before .number ≡ 0 → length (numerals bad n file at before .values) ≡ n + length before
+  numerals-length zero at before z = unfold numerals in omega arith
+  numerals-length (suc n) at before z =
       let o = one-more n at before z in
-      ap (λ (r : Numbers). length (r .values)) (o .0)
-      ∙ numbers-length n (number file at .place) (before ++ number file at .value ∷ []) (sym (ap (λ (r : Numbers). r .number) (o .0)) ∙ z)
+      ap (λ (r : Numerals). length (r .values)) (o .0)
+      ∙ numerals-length n (numeral file at .place) (before ++ numeral file at .value ∷ []) (sym (ap (λ (r : Numerals). r .number) (o .0)) ∙ z)
       ∙ rw length-append (omega arith)
 
   -- each passes
-  numbers-each : (Q : ℕ → Type 0) → ((b : List ℕ) (x : ℕ) → bad b x ≡ 0 → Q x) → (n at : ℕ) → numbers bad n file at [] .number ≡ 0
-      → (k : ℕ) → k < length (numbers bad n file at [] .values) → Q (getD (numbers bad n file at [] .values) k 0)
-  numbers-each Q h n at z =
-      numbers-keep (λ b. (k : ℕ) → k < length b → Q (getD b k 0))
+  numerals-each : (Q : ℕ → Type 0) → ((b : List ℕ) (x : ℕ) → bad b x ≡ 0 → Q x) → (n at : ℕ) → numerals bad n file at [] .number ≡ 0
+      → (k : ℕ) → k < length (numerals bad n file at [] .values) → Q (getD (numerals bad n file at [] .values) k 0)
+  numerals-each Q h n at z =
+      numerals-keep (λ b. (k : ℕ) → k < length b → Q (getD b k 0))
       (λ b x e p k l. elim (decLt k (length b)) [
         | yes m ↦ rw (List·getD-append b (x ∷ []) 0 k m) (p k m)
         | no m ↦ let q : k ≡ length b = omega (arith, length-append b (x ∷ [])) in rw (q, getD-append-seam b x [] 0) (h b x e)
@@ -112,22 +112,22 @@ module _ (file : List ℕ) (a : Accepted file) where
   -- N is the number of racks
   racks-N : length (fileRacks file) ≡ getD (readN file .values) 0 0
   unfolding fileRacks readM
-  racks-N = length-caps (readM file .values) ∙ numbers-length wrongM file (getD (readN file .values) 0 0) (readB file .place) [] (a .M-read) ∙ omega arith
+  racks-N = length-caps (readM file .values) ∙ numerals-length wrongM file (getD (readN file .values) 0 0) (readB file .place) [] (a .M-read) ∙ omega arith
 
   count-ok : badCount (length (fileRacks file)) ≡ false
   unfolding readN wrongN
-  count-ok = rw racks-N (numbers-each wrongN file (λ x. badCount x ≡ false) (λ b x e. one-off (badCount x) 1 (λ q. omega arith) e) 1 0 (a .N-read) 0 (omega (arith, numbers-length wrongN file 1 0 [] (a .N-read))))
+  count-ok = rw racks-N (numerals-each wrongN file (λ x. badCount x ≡ false) (λ b x e. one-off (badCount x) 1 (λ q. omega arith) e) 1 0 (a .N-read) 0 (omega (arith, numerals-length wrongN file 1 0 [] (a .N-read))))
 
   bytes-ok : badBytes (fileBytes file) ≡ false
   unfolding readB wrongB fileBytes
   bytes-ok =
-      numbers-each wrongB file (λ x. badBytes x ≡ false) (λ b x e. one-off (badBytes x) 2 (λ q. omega arith) e) 1 (readN file .place) (a .B-read) 0
-      (omega (arith, numbers-length wrongB file 1 (readN file .place) [] (a .B-read)))
+      numerals-each wrongB file (λ x. badBytes x ≡ false) (λ b x e. one-off (badBytes x) 2 (λ q. omega arith) e) 1 (readN file .place) (a .B-read) 0
+      (omega (arith, numerals-length wrongB file 1 (readN file .place) [] (a .B-read)))
 
   size-ok : badSize (fileRacks file) ≡ false
   unfolding readM wrongM fileRacks
   size-ok =
-      numbers-keep wrongM file (λ b. badSize (ofCaps b) ≡ false) (λ b x e _. one-off _ 3 (λ q. omega arith) e) (getD (readN file .values) 0 0) (readB file .place) [] size-none (a .M-read)
+      numerals-keep wrongM file (λ b. badSize (ofCaps b) ≡ false) (λ b x e _. one-off _ 3 (λ q. omega arith) e) (getD (readN file .values) 0 0) (readB file .place) [] size-none (a .M-read)
 
   small : slots (fileRacks file) ≤ 4096
   unfolding fileRacks
@@ -135,7 +135,7 @@ module _ (file : List ℕ) (a : Accepted file) where
 
   entries-length : length (readEntries file .values) ≡ slots (fileRacks file)
   unfolding readEntries
-  entries-length = numbers-length (wrongEntry (fileRacks file)) file (slots (fileRacks file)) (readM file .place) [] (a .entries-read) ∙ omega arith
+  entries-length = numerals-length (wrongEntry (fileRacks file)) file (slots (fileRacks file)) (readM file .place) [] (a .entries-read) ∙ omega arith
 
   places-length : length (filePlaces file) ≡ slots (fileRacks file)
   unfolding filePlaces
@@ -144,7 +144,7 @@ module _ (file : List ℕ) (a : Accepted file) where
   entry-right : (g : ℕ) → g < slots (fileRacks file) → wrong-file (fileRacks file) (getD (readEntries file .values) g 0) ≡ false
   unfolding readEntries wrongEntry
   entry-right g l =
-      numbers-each (wrongEntry (fileRacks file)) file (λ x. wrong-file (fileRacks file) x ≡ false) (λ b x e. one-off _ 5 (λ q. omega arith) e)
+      numerals-each (wrongEntry (fileRacks file)) file (λ x. wrong-file (fileRacks file) x ≡ false) (λ b x e. one-off _ 5 (λ q. omega arith) e)
       (slots (fileRacks file)) (readM file .place) (a .entries-read) g (omega (arith, entries-length))
 
   entry-small : (x : ℕ) → wrong-file (fileRacks file) x ≡ false → x ≤ 4096

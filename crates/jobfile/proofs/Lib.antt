@@ -1,5 +1,5 @@
 pub mod Groups
-pub mod Numbers
+pub mod Numerals
 pub mod Cards
 pub mod Capacities
 pub mod Fronts

@@ -6,14 +6,14 @@ use Rattle.counting.specs.Tests.{pick}
 use Rattle.counting.specs.Checks.{done}
 use Rattle.racks.specs.Racks.{slots}
 use Rattle.answers.specs.Answers.{noCounts, answer}
-use Rattle.jobfile.specs.Number.{Got, refused}
+use Rattle.jobfile.specs.Numeral.{Got, refused}
 use Rattle.jobfile.specs.File.{Read, fileRacks, fileBytes, readEntries}
-use Rattle.jobfile.specs.declared.Number.{Number}
-use Rattle.jobfile.specs.declared.Number.the-variants.{Value, Refused}
+use Rattle.jobfile.specs.declared.Numeral.{Numeral}
+use Rattle.jobfile.specs.declared.Numeral.the-variants.{Value, Refused}
 use Rattle.jobfile.specs.declared.FileAnswer.{FileAnswer}
 
--- 01's number, the value and the place for each case of `Number`
-unfoldable pub gotOf : Number → Got
+-- 01's number, the value and the place for each case of `Numeral`
+unfoldable pub gotOf : Numeral → Got
 gotOf (Value x place) = record { number = 0; value = x; place = place }
 gotOf (Refused n) = refused n
 

@@ -12,7 +12,7 @@ use Rattle.racks.specs.Racks.{Rack, ofCaps, slots, isUser}
 use Rattle.racks.specs.Numbers.{badCount, badBytes, badSize, badTwice}
 use Rattle.answers.specs.Answers.{noCounts, answer, written}
 use Rattle.answers.specs.declared.Answer.{Answer}
-use Rattle.jobfile.specs.Number.{Numbers, numbers}
+use Rattle.jobfile.specs.Numeral.{Numerals, numerals}
 
 -- 1 for N
 unfoldable pub wrongN : List ℕ → ℕ → ℕ
@@ -36,24 +36,24 @@ entryOf x = pick (eqb x 0) FREE (x - 1)
 
 module _ (file : List ℕ) where
   -- N
-  unfoldable pub readN : Numbers
-  readN = numbers wrongN 1 file 0 []
+  unfoldable pub readN : Numerals
+  readN = numerals wrongN 1 file 0 []
 
   -- B
-  unfoldable pub readB : Numbers
-  readB = numbers wrongB 1 file (readN .place) []
+  unfoldable pub readB : Numerals
+  readB = numerals wrongB 1 file (readN .place) []
 
   -- the m_p
-  unfoldable pub readM : Numbers
-  readM = numbers wrongM (getD (readN .values) 0 0) file (readB .place) []
+  unfoldable pub readM : Numerals
+  readM = numerals wrongM (getD (readN .values) 0 0) file (readB .place) []
 
   -- the racks that they give
   unfoldable pub fileRacks : List Rack
   fileRacks = ofCaps (readM .values)
 
   -- S entries
-  unfoldable pub readEntries : Numbers
-  readEntries = numbers (wrongEntry fileRacks) (slots fileRacks) file (readM .place) []
+  unfoldable pub readEntries : Numerals
+  readEntries = numerals (wrongEntry fileRacks) (slots fileRacks) file (readM .place) []
 
   -- B, once read
   unfoldable pub fileBytes : ℕ
@@ -67,7 +67,7 @@ module _ (file : List ℕ) where
   unfoldable pub fileCards : List ℕ
   fileCards = drop (readEntries .place) file
 
-  -- each number as read; after the last entry 6, then 15 or 16 for the card bytes
+  -- each numeral as read; after the last entry 6, then 15 or 16 for the card bytes
   unfoldable pub fileChecks : List Check
   fileChecks =
       refusal (readN .number)

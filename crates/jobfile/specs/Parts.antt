@@ -12,30 +12,30 @@ use Rattle.racks.specs.Limits.{USERS, TOTAL}
 use Rattle.racks.specs.Racks.{Rack, ofCaps, slots}
 use Rattle.racks.specs.Numbers.{badSize, badTwice}
 use Rattle.racks.specs.Job.{rackChecks}
-use Rattle.jobfile.specs.Number.{Got, refused, number, Numbers, numbers}
+use Rattle.jobfile.specs.Numeral.{Got, refused, numeral, Numerals, numerals}
 use Rattle.jobfile.specs.File.{wrongM, wrongEntry, entryOf, readN, readB, readM, fileRacks, fileBytes, filePlaces, fileChecks}
 use Rattle.jobfile.specs.Answers.{fileAnswer}
 use Rattle.jobfile.specs.declared.FileAnswer.{FileAnswer}
 use Rattle.jobfile.specs.declared.parts.Taken.{Taken}
 use Rattle.jobfile.specs.declared.parts.Head.{Head}
 
--- the last group of a number: 14 where it is 0 and not the only one
+-- the last group of a numeral: 14 where it is 0 and not the only one
 unfoldable pub lastGroup : ℕ → ℕ → ℕ → ℕ → Got
 lastGroup value weight x next =
     pick (eqb x 0 and not (eqb weight 1)) (refused 14) (record { number = 0; value = value + x * weight; place = next })
 
--- a number read and checked: first its form, then by `bad`
+-- a numeral read and checked: first its form, then by `bad`
 unfoldable pub checkedBy : (ℕ → ℕ) → List ℕ → ℕ → Got
 checkedBy bad file at =
-    let x = number file at in
+    let x = numeral file at in
     let n = first (refusal (x .number) ∷ refusal (bad (x .value)) ∷ []) in
     pick (done n) x (refused n)
 
--- n for a number below `low` or above `high`
+-- n for a numeral below `low` or above `high`
 unfoldable pub outside : ℕ → ℕ → ℕ → ℕ → ℕ
 outside low high n x = first ((ltb x low or ltb high x, n) ∷ [])
 
--- a number between two limits
+-- a numeral between two limits
 unfoldable pub between : ℕ → ℕ → ℕ → List ℕ → ℕ → Got
 between low high n = checkedBy (outside low high n)
 
@@ -43,13 +43,13 @@ between low high n = checkedBy (outside low high n)
 unfoldable pub room : ℕ → ℕ
 room total = pick (ltb (TOTAL - total) USERS) (TOTAL - total) USERS
 
--- the numbers that an answer and the list that they were put in are
-unfoldable pub takenOf : Taken → List ℕ → Numbers
+-- the numerals that an answer and the list that they were put in are
+unfoldable pub takenOf : Taken → List ℕ → Numerals
 takenOf taken values = record { number = taken .number; values = pick (done (taken .number)) values []; place = taken .place }
 
 -- the m_p at the front of the list, in order
 pub record CapsRead (file : List ℕ) (at n : ℕ) (taken : Taken) (caps : List ℕ) : Type 0 where
-  pub is : takenOf taken (take n caps) ≡ numbers wrongM n file at []
+  pub is : takenOf taken (take n caps) ≡ numerals wrongM n file at []
   pub good : taken .number ≡ 0 → badSize (ofCaps (take n caps)) ≡ false
   pub long : length caps ≡ 64
 
@@ -78,11 +78,11 @@ pub record HeadRead (file : List ℕ) (head : Head) (caps : List ℕ) : Type 0 w
   pub long : length caps ≡ 64
 
 -- the S entries of racks, from a place on
-unfoldable pub entries : List Rack → List ℕ → ℕ → Numbers
-entries racks file at = numbers (wrongEntry racks) (slots racks) file at []
+unfoldable pub entries : List Rack → List ℕ → ℕ → Numerals
+entries racks file at = numerals (wrongEntry racks) (slots racks) file at []
 
 -- 14, 15 or 5 for the entries, then 6
-unfoldable pub entriesChecks : Numbers → List Check
+unfoldable pub entriesChecks : Numerals → List Check
 entriesChecks read = refusal (read .number) ∷ (badTwice (each entryOf (read .values)), 6) ∷ []
 
 -- what reading the entries gives: where it is done, the places at the front of the list

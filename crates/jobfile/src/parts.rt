@@ -1,22 +1,22 @@
-// What the file reader is made of: one number, a number between two limits, the capacities, the entries, the whole file.
+// What the file reader is made of: one numeral, a numeral between two limits, the capacities, the entries, the whole file.
 ghost use mathlib.Core.Path.{_≡_};
 ghost use Prim.Native.Nat.{_<_, _≤_};
 ghost use lib.ListN.{length, take};
 ghost use Rattle.racks.specs.Job.{racksOf, jobOf, Sound};
 ghost use Rattle.racks.specs.Racks.{ofCaps};
 ghost use Rattle.tables.specs.Tables.{Marked};
-ghost use Rattle.jobfile.specs.Number.{number};
+ghost use Rattle.jobfile.specs.Numeral.{numeral};
 ghost use Rattle.jobfile.specs.File.{entryOf};
 ghost use Rattle.jobfile.specs.Answers.{gotOf, refusedFile};
 ghost use Rattle.jobfile.specs.Parts.{lastGroup, between, noHead, room, leftOf, endNumber, CapsRead, HeadRead, EntriesRead, Parsed};
 use crate::FileAnswer;
-use crate::Number;
+use crate::Numeral;
 use answers::Answer;
 use racks::Job;
 
-// The number at a place of the file: groups of seven bits, lowest first, at most three.
-pub fn next_number(file: &[u8], at: usize) -> Number
-    ensures { λ r. ⌜ gotOf r ≡ number (now (file .entry)) at ⌝ }
+// The numeral at a place of the file: groups of seven bits, lowest first, at most three.
+pub fn next_numeral(file: &[u8], at: usize) -> Numeral
+    ensures { λ r. ⌜ gotOf r ≡ numeral (now (file .entry)) at ⌝ }
 {
     let mut value: usize = 0;
     let mut weight: usize = 1;
@@ -24,7 +24,7 @@ pub fn next_number(file: &[u8], at: usize) -> Number
     let mut left: usize = 3;
     while 0 < left {
         if file.len() <= place {
-            return Number::Refused(15);
+            return Numeral::Refused(15);
         }
         let x = file[place] as usize;
         if x < 128 {
@@ -35,52 +35,52 @@ pub fn next_number(file: &[u8], at: usize) -> Number
         place = place + 1;
         left = left - 1;
     }
-    Number::Refused(14)
+    Numeral::Refused(14)
 }
 
-// The last group of a number: 14 where it is 0 and not the only one.
-fn last_group(value: usize, weight: usize, x: usize, next: usize) -> Number
+// The last group of a numeral: 14 where it is 0 and not the only one.
+fn last_group(value: usize, weight: usize, x: usize, next: usize) -> Numeral
     requires { ⌜ (x < 128) × (weight ≤ 16384) × (value < weight) ⌝ }
     ensures { λ r. ⌜ gotOf r ≡ lastGroup value weight x next ⌝ }
 {
     if x != 0 {
-        return Number::Value(value + x * weight, next);
+        return Numeral::Value(value + x * weight, next);
     }
     if weight != 1 {
-        return Number::Refused(14);
+        return Numeral::Refused(14);
     }
-    Number::Value(value, next)
+    Numeral::Value(value, next)
 }
 
-// What a number is refused with; 0 where it is not.
-fn refused_with(got: Number) -> u8
+// What a numeral is refused with; 0 where it is not.
+fn refused_with(got: Numeral) -> u8
     ensures { λ r. ⌜ r ≡ gotOf got .number ⌝ }
 {
     match got {
-        Number::Value(_, _) => 0,
-        Number::Refused(number) => number,
+        Numeral::Value(_, _) => 0,
+        Numeral::Refused(number) => number,
     }
 }
 
-// The number at a place of the file, refused with n where it is below `low` or above `high`.
-pub fn bounded_number(file: &[u8], at: usize, low: usize, high: usize, n: u8) -> Number
+// The numeral at a place of the file, refused with n where it is below `low` or above `high`.
+pub fn bounded_numeral(file: &[u8], at: usize, low: usize, high: usize, n: u8) -> Numeral
     requires { ⌜ 0 < n ⌝ }
     ensures { λ r. ⌜ gotOf r ≡ between low high n (now (file .entry)) at ⌝ }
 {
-    let got = next_number(file, at);
-    let Number::Value(x, _) = got else {
+    let got = next_numeral(file, at);
+    let Numeral::Value(x, _) = got else {
         return got;
     };
     if x < low {
-        return Number::Refused(n);
+        return Numeral::Refused(n);
     }
     if high < x {
-        return Number::Refused(n);
+        return Numeral::Refused(n);
     }
     got
 }
 
-// What numbers read one after another give: 0 or the refusal, and the place behind them.
+// What numerals read one after another give: 0 or the refusal, and the place behind them.
 pub struct Taken {
     pub number: u8,
     pub place: usize,
@@ -99,7 +99,7 @@ fn room_for(total: usize) -> usize
 }
 
 // The m_p, n of them, to the front of a list of the reader's own.
-fn read_caps(file: &[u8], at: usize, n: usize, caps: &mut [u16; 64]) -> Taken
+fn read_caps(file: &[u8], at: usize, n: usize, caps: &mut [u16; Job::MAX_RACKS]) -> Taken
     requires { ⌜ (n ≤ 64) × (length (now caps) ≡ 64) ⌝ }
     ensures { λ r. ⌜ CapsRead (now (file .entry)) at n r (now (caps .exit)) ⌝ }
 {
@@ -108,8 +108,8 @@ fn read_caps(file: &[u8], at: usize, n: usize, caps: &mut [u16; 64]) -> Taken
     let mut p: usize = 0;
     while p < n {
         let high = room_for(total);
-        let got = bounded_number(file, place, 0, high, 3);
-        let Number::Value(m, next) = got else {
+        let got = bounded_numeral(file, place, 0, high, 3);
+        let Numeral::Value(m, next) = got else {
             return Taken {
                 number: refused_with(got),
                 place: 0,
@@ -131,8 +131,8 @@ pub struct Head {
     pub place: usize,
 }
 
-// The front refused with what a number is refused with.
-fn no_head(got: Number) -> Head
+// The front refused with what a numeral is refused with.
+fn no_head(got: Numeral) -> Head
     ensures { λ r. ⌜ r ≡ noHead (gotOf got .number) ⌝ }
 {
     Head {
@@ -144,16 +144,16 @@ fn no_head(got: Number) -> Head
 }
 
 // N, B and the m_p.
-fn read_head(file: &[u8], caps: &mut [u16; 64]) -> Head
+fn read_head(file: &[u8], caps: &mut [u16; Job::MAX_RACKS]) -> Head
     requires { ⌜ length (now caps) ≡ 64 ⌝ }
     ensures { λ r. ⌜ HeadRead (now (file .entry)) r (now (caps .exit)) ⌝ }
 {
-    let first = bounded_number(file, 0, 1, Job::MAX_RACKS, 1);
-    let Number::Value(racks, behind) = first else {
+    let first = bounded_numeral(file, 0, 1, Job::MAX_RACKS, 1);
+    let Numeral::Value(racks, behind) = first else {
         return no_head(first);
     };
-    let second = bounded_number(file, behind, 1, Job::MAX_BYTES, 2);
-    let Number::Value(bytes, at) = second else {
+    let second = bounded_numeral(file, behind, 1, Job::MAX_BYTES, 2);
+    let Numeral::Value(bytes, at) = second else {
         return no_head(second);
     };
     let taken = read_caps(file, at, racks, caps);
@@ -189,8 +189,8 @@ fn read_entries(
     job: Job,
     file: &[u8],
     at: usize,
-    marks: &mut [u8; 4096],
-    places: &mut [u16; 4096],
+    marks: &mut [u8; Job::MAX_SLOTS],
+    places: &mut [u16; Job::MAX_SLOTS],
 ) -> Taken
     requires { ⌜ Sound job × Marked (racksOf job) (now marks) × (length (now places) ≡ 4096) ⌝ }
     ensures { λ r. ⌜ EntriesRead (racksOf job) (now (file .entry)) at r (now (places .exit)) ⌝ }
@@ -199,8 +199,8 @@ fn read_entries(
     let mut worst: u8 = 0;
     let mut g: usize = 0;
     while g < job.slots {
-        let got = bounded_number(file, place, 0, 4096, 5);
-        let Number::Value(x, next) = got else {
+        let got = bounded_numeral(file, place, 0, Job::MAX_SLOTS, 5);
+        let Numeral::Value(x, next) = got else {
             return Taken {
                 number: refused_with(got),
                 place: 0,
@@ -226,7 +226,7 @@ fn read_entries(
 }
 
 // The S entries, with the marks made.
-fn read_table(job: Job, file: &[u8], at: usize, places: &mut [u16; 4096]) -> Taken
+fn read_table(job: Job, file: &[u8], at: usize, places: &mut [u16; Job::MAX_SLOTS]) -> Taken
     requires { ⌜ Sound job × (length (now places) ≡ 4096) ⌝ }
     ensures { λ r. ⌜ EntriesRead (racksOf job) (now (file .entry)) at r (now (places .exit)) ⌝ }
 {
@@ -274,7 +274,11 @@ pub fn refused(number: u8) -> FileAnswer
 }
 
 // The whole file, with the capacities and places at the front of the reader's own lists: all checks but 17.
-pub fn parse(file: &[u8], caps: &mut [u16; 64], places: &mut [u16; 4096]) -> FileAnswer
+pub fn parse(
+    file: &[u8],
+    caps: &mut [u16; Job::MAX_RACKS],
+    places: &mut [u16; Job::MAX_SLOTS],
+) -> FileAnswer
     requires { ⌜ (length (now caps) ≡ 64) × (length (now places) ≡ 4096) ⌝ }
     ensures { λ r. ⌜ Parsed (now (file .entry)) r (now (caps .exit)) (now (places .exit)) ⌝ }
 {

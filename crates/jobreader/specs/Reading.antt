@@ -4,28 +4,28 @@ use mathlib.Core.List.{List}
 use Prim.Native.Nat.{ℕ}
 use lib.ListN.{drop}
 use denote.Ref.{now}
-use Rattle.jobfile.specs.Number.{number}
+use Rattle.jobfile.specs.Numeral.{numeral}
 use Rattle.jobfile.specs.File.{read}
 use Rattle.jobfile.specs.Answers.{gotOf}
-use Rattle.jobfile.specs.declared.Number.{Number}
-use Rattle.jobfile.specs.declared.Number.the-variants.{Value, Refused}
+use Rattle.jobfile.specs.declared.Numeral.{Numeral}
+use Rattle.jobfile.specs.declared.Numeral.the-variants.{Value, Refused}
 use Rattle.jobreader.specs.declared.Reader.{Reader}
 use Rattle.jobreader.specs.declared.Step.{Step}
 use Rattle.jobreader.specs.declared.JobFile.{JobFile}
 
--- the place of the reader behind a number: it moves on, and stays where the number is refused
-unfoldable pub placeAfter : Number → ℕ → ℕ
+-- the place of the reader behind a numeral: it moves on, and stays where the numeral is refused
+unfoldable pub placeAfter : Numeral → ℕ → ℕ
 placeAfter (Value x next) at = next
 placeAfter (Refused n) at = at
 
--- a number of the file and the place behind it
+-- a numeral of the file and the place behind it
 pub record Stepped (file : List ℕ) (at : ℕ) (step : Step) : Type 0 where
-  pub got-is : gotOf (step .number) ≡ number file at
-  pub at-is : step .at ≡ placeAfter (step .number) at
+  pub got-is : gotOf (step .numeral) ≡ numeral file at
+  pub at-is : step .at ≡ placeAfter (step .numeral) at
 
--- the next number of a reader, which keeps its file and remembers its place
-pub record Next (before : Reader) (n : Number) (after : Reader) : Type 0 where
-  pub got-is : gotOf n ≡ number (now (before .file)) (before .at)
+-- the next numeral of a reader, which keeps its file and remembers its place
+pub record Next (before : Reader) (n : Numeral) (after : Reader) : Type 0 where
+  pub got-is : gotOf n ≡ numeral (now (before .file)) (before .at)
   pub file-is : after .file ≡ before .file
   pub at-is : after .at ≡ placeAfter n (before .at)
 

@@ -3,7 +3,7 @@
 ghost use mathlib.Core.Path.{_≡_};
 ghost use Rattle.jobreader.specs.Reading.{Stepped, Next, JobRead};
 use answers::Answer;
-use jobfile::Number;
+use jobfile::Numeral;
 
 // A file and the reader's place in it.
 pub struct Reader<'a> {
@@ -11,9 +11,9 @@ pub struct Reader<'a> {
     pub at: usize,
 }
 
-// A number of the file, and the place of the reader behind it.
+// A numeral of the file, and the place of the reader behind it.
 pub struct Step {
-    pub number: Number,
+    pub numeral: Numeral,
     pub at: usize,
 }
 
@@ -26,14 +26,14 @@ pub struct JobFile<'a> {
     pub cards: &'a [u8],
 }
 
-// The number at a place, and the place behind it; the same place where the number is refused.
+// The numeral at a place, and the place behind it; the same place where the numeral is refused.
 pub fn step_at(file: &[u8], at: usize) -> Step
     ensures { λ r. ⌜ Stepped (now (file .entry)) at r ⌝ }
 {
-    let number = jobfile::parts::next_number(file, at);
-    match number {
-        Number::Value(_, next) => Step { number, at: next },
-        Number::Refused(_) => Step { number, at },
+    let numeral = jobfile::parts::next_numeral(file, at);
+    match numeral {
+        Numeral::Value(_, next) => Step { numeral, at: next },
+        Numeral::Refused(_) => Step { numeral, at },
     }
 }
 
@@ -44,13 +44,13 @@ pub fn new<'a>(file: &'a [u8]) -> Reader<'a>
     Reader { file, at: 0 }
 }
 
-// The next number: the reader's place moves on behind it, and stays where it is refused.
-pub fn next<'s, 'a>(r: &'s mut Reader<'a>) -> Number
+// The next numeral: the reader's place moves on behind it, and stays where it is refused.
+pub fn next<'s, 'a>(r: &'s mut Reader<'a>) -> Numeral
     ensures { λ n. ⌜ Next (now (r .entry)) n (now (r .exit)) ⌝ }
 {
     let step = step_at(r.file, r.at);
     r.at = step.at;
-    step.number
+    step.numeral
 }
 
 // Job file: the job that begins at the reader's place. The capacities and the places stand at the front of the lent lists;

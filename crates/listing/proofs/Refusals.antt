@@ -11,7 +11,7 @@ use Rattle.counting.specs.Every.{All}
 use Rattle.counting.specs.Every.All.{none, more}
 use mathlib.Core.Bool.{not}
 use Rattle.racks.specs.Racks.{slots}
-use Rattle.jobfile.specs.Number.{groups, number, numbers}
+use Rattle.jobfile.specs.Numeral.{groups, numeral, numerals}
 use Rattle.jobfile.specs.File.{wrongN, wrongB, wrongM, wrongEntry, readN, readB, readM, readEntries, fileRacks, fileChecks}
 use Rattle.listing.specs.Listing.{programChecks}
 
@@ -25,7 +25,7 @@ unfolding first
 first-most k none = omega arith
 first-most k (more {x} p r) = by-test (x .0) (λ e. rw e p) (λ e. rw e (first-most k r))
 
--- a number of the file is refused with 14 or 15
+-- a numeral of the file is refused with 14 or 15
 groups-most : (m : ℕ) (file : List ℕ) (at value weight : ℕ) → groups m file at value weight .number ≤ 15
 unfolding groups
 groups-most zero file at value weight = omega arith
@@ -36,8 +36,8 @@ groups-most (suc m) file at value weight =
     (λ q. rw q (by-test (eqb x 0 and not (eqb weight 1)) (λ t. rw t (omega arith)) (λ t. rw t (omega arith))))))
 
 -- numbers one after another, with 14 or 15, or with what `bad` gives
-numbers-most : (bad : List ℕ → ℕ → ℕ) → ((before : List ℕ) (x : ℕ) → bad before x ≤ 15) → (n : ℕ) (file : List ℕ) (at : ℕ) (before : List ℕ) → numbers bad n file at before .number ≤ 15
-unfolding numbers number
+numbers-most : (bad : List ℕ → ℕ → ℕ) → ((before : List ℕ) (x : ℕ) → bad before x ≤ 15) → (n : ℕ) (file : List ℕ) (at : ℕ) (before : List ℕ) → numerals bad n file at before .number ≤ 15
+unfolding numerals numeral
 numbers-most bad few zero file at before = omega arith
 numbers-most bad few (suc n) file at before =
     let x = groups 3 file at 0 1 in

@@ -1,4 +1,4 @@
-// Paper cards for the reader: case 8, case 1, refusals, and a job behind numbers that were read.
+// Paper cards for the reader: case 8, case 1, refusals, and a job behind numerals that were read.
 use jobreader::Reader;
 
 mod say;
@@ -14,12 +14,12 @@ fn say_from_start(file: &[u8], caps: &mut [u16], places: &mut [u16]) {
     say_job_at(jobreader::new(file), caps, places);
 }
 
-// Two numbers of a file, one after another, and the job behind them.
+// Two numerals of a file, one after another, and the job behind them.
 fn say_behind_two(file: &[u8], caps: &mut [u16], places: &mut [u16]) {
     let mut r = jobreader::new(file);
     let first = jobreader::next(&mut r);
     let second = jobreader::next(&mut r);
-    say::say_numbers(first, second);
+    say::say_numerals(first, second);
     say_job_at(r, caps, places);
 }
 
@@ -38,7 +38,7 @@ fn start(name: &[u8], file: &[u8]) {
     say_lists(&caps, &places);
 }
 
-// Two numbers of a file, and what lies behind them as a job, with the same room.
+// Two numerals of a file, and what lies behind them as a job, with the same room.
 fn behind(name: &[u8], file: &[u8]) {
     let mut caps = [7u16; 4];
     let mut places = [7u16; 10];
@@ -47,7 +47,7 @@ fn behind(name: &[u8], file: &[u8]) {
     say_lists(&caps, &places);
 }
 
-// The numbers of case 8, each followed by the end of the file, and one after another.
+// The numerals of case 8, each followed by the end of the file, and one after another.
 fn case_8() {
     behind(b"80 01: ", b"\x80\x01");
     behind(b"80 80 01: ", b"\x80\x80\x01");
@@ -57,7 +57,7 @@ fn case_8() {
     behind(b"80 01 and 80 80 01: ", b"\x80\x01\x80\x80\x01");
 }
 
-// Case 1 from the start of its file, behind two numbers, and with its first two numbers read.
+// Case 1 from the start of its file, behind two numerals, and with its first two numerals read.
 fn case_1() {
     start(
         b"case 1: ",
@@ -68,7 +68,7 @@ fn case_1() {
         b"\x80\x01\x80\x80\x01\x03\x01\x02\x02\x01\x04\x05\x00\x01\x07\x00\x02\x00\x41\x42\x00\x43\x44\x00\x45\x00",
     );
     behind(
-        b"case 1 from its third number on: ",
+        b"case 1 from its third numeral on: ",
         b"\x03\x01\x02\x02\x01\x04\x05\x00\x01\x07\x00\x02\x00\x41\x42\x00\x43\x44\x00\x45\x00",
     );
 }

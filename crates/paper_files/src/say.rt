@@ -1,26 +1,26 @@
 // What is printed.
 use answers::Answer;
-use jobfile::Number;
+use jobfile::Numeral;
 use racks::Job;
 
-// A number of a file, or what it is refused with.
-fn say_number(n: Number) {
+// A numeral of a file, or what it is refused with.
+fn say_numeral(n: Numeral) {
     match n {
-        Number::Value(value, _) => {
+        Numeral::Value(value, _) => {
             io::write_all(1, b" ");
             io::print_decimal(1, value as u64);
         }
-        Number::Refused(number) => {
+        Numeral::Refused(number) => {
             io::write_all(1, b" refused ");
             io::print_decimal(1, number as u64);
         }
     }
 }
 
-pub fn say_numbers(first: Number, second: Number) {
-    io::write_all(1, b"numbers");
-    say_number(first);
-    say_number(second);
+pub fn say_numerals(first: Numeral, second: Numeral) {
+    io::write_all(1, b"numerals");
+    say_numeral(first);
+    say_numeral(second);
     io::write_all(1, b", ");
 }
 

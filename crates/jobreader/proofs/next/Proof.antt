@@ -45,8 +45,8 @@ use denote.Triple.Spec.{Meets, tripleOf}
 use denote.Triple.Table.{entered, cited}
 use denote.Triple.Walked.{says, Stays, stay-ref, walkOf, goes-ref, Walks, ends-at, walked, walk-meets}
 use denote.Triple.Clauses.{ensured, lasts}
-use Rattle.jobfile.proofs.Number as E
-use Rattle.jobfile.proofs.Number.Laws as E′
+use Rattle.jobfile.proofs.Numeral as E
+use Rattle.jobfile.proofs.Numeral.Laws as E′
 use Rattle.jobreader.specs.Reading.{Stepped}
 use Rattle.jobreader.specs.declared.Reader.{Reader}
 use Rattle.jobreader.specs.declared.Step.{Step}
@@ -152,23 +152,23 @@ module _ {M : Type 1} (𝓤 : URA M) (H : Heap 𝓤) (A : Atoms 𝓤) (W : Given
   at-fits : (r : Step) (u : Val) → Is N.the-row r (u ∷ []) → r .at < 2 ^ 64
   at-fits r u is = LL.owed N.the-type N′.the-laws r _ is .1 .0 .1
 
-  -- the machine value of its number
+  -- the machine value of its numeral
   abbrev low : Step → Val
-  low r = EL.val E.the-type E′.the-laws (r .number)
+  low r = EL.val E.the-type E′.the-laws (r .numeral)
 
-  number-is : (r : Step) (u : Val) → Is N.the-row r (u ∷ []) → Is E.the-row (r .number) (low r ∷ [])
-  number-is r u is = LL.owed N.the-type N′.the-laws r _ is .0
+  numeral-is : (r : Step) (u : Val) → Is N.the-row r (u ∷ []) → Is E.the-row (r .numeral) (low r ∷ [])
+  numeral-is r u is = LL.owed N.the-type N′.the-laws r _ is .0
 
   -- the file is kept, and the place's facts are made anew
   again : (k : ℕ) → k < 2 ^ 64 → ent 𝓤 (sem 𝓤 H A Own) (sem 𝓤 H A (B κ′ .own (h′ k) (mach k ∷ [])))
   again k ok = qed W (‵ Own ∷ []) ∵ owned ! usize (Is usize) (uint-makes 𝓤 H A W w64) k _ (refl, ok) $ move ! (1 ∷ 0 ∷ []) $ by ! (own-put 𝓤 H A W D L 1 vd k (mach pos))
 
-  exits : (r : Step) → Found r → Is E.the-row (r .number) (low r ∷ []) → ent 𝓤 (⋆ 𝓤 H A (‵ (fobs γ (B κ′ .coded .code (h′ (r .at)))) ∷ ‵ (fbor κ (Body (mem (B κ′)) b o γ)) ∷ ‵ (flft κ q) ∷ (‵ (flft κ′ q′) ⊛ ‵ ftrue) ∷ [])) (Post (low r))
+  exits : (r : Step) → Found r → Is E.the-row (r .numeral) (low r ∷ []) → ent 𝓤 (⋆ 𝓤 H A (‵ (fobs γ (B κ′ .coded .code (h′ (r .at)))) ∷ ‵ (fbor κ (Body (mem (B κ′)) b o γ)) ∷ ‵ (flft κ q) ∷ (‵ (flft κ′ q′) ⊛ ‵ ftrue) ∷ [])) (Post (low r))
   exits r e is =
       qed W (‵ (fobs γ (B κ′ .coded .code (h′ (r .at)))) ∷ ‵ (fbor κ (Body (mem (B κ′)) b o γ)) ∷ ‵ (flft κ q) ∷ (‵ (flft κ′ q′) ⊛ ‵ ftrue) ∷ []) ∵
-      suffices ! _ (ends-at 𝓤 H A next.ended stayed (next.clauses 𝓤 H A at-mem run) W (((κ, (κ′, tt)), (q, (q′, tt)), bounds, x, at), tt) (low r) (r .number) (h′ (r .at), tt) (tt, tt)) $ says ! (record { got-is = e .got-is; file-is = refl; at-is = e .at-is }) $
+      suffices ! _ (ends-at 𝓤 H A next.ended stayed (next.clauses 𝓤 H A at-mem run) W (((κ, (κ′, tt)), (q, (q′, tt)), bounds, x, at), tt) (low r) (r .numeral) (h′ (r .at), tt) (tt, tt)) $ says ! (record { got-is = e .got-is; file-is = refl; at-is = e .at-is }) $
       move ! (2 ∷ 3 ∷ []) $ join ! $ frame ! $ feqI ! (List Val) (vptr b o ∷ []) (vptr b o ∷ []) refl $ fjoin3 ! $ nothing ! $ move ! (1 ∷ 0 ∷ []) $ fjoin ! $
-      owned ! E.the-row (Is E.the-row) (EL.makes E.the-type E′.the-plain 𝓤 H A) (r .number) _ is $ move ! (1 ∷ 0 ∷ []) $ done !
+      owned ! E.the-row (Is E.the-row) (EL.makes E.the-type E′.the-plain 𝓤 H A) (r .numeral) _ is $ move ! (1 ∷ 0 ∷ []) $ done !
 
   module _ (C : Calls 𝓤 H) (Λ : Loops 𝓤 H) (fm : FmC 𝓤 H (W .laws) C) (known : Triple 𝓤 (C #jobreader·step-at) (StepAt 𝓤 H A at-mem run)) where
     walk : ent 𝓤 (onEntry 𝓤 H A next.signature (κ, (κ′, tt)) (q, (q′, tt)) x at) (WpFn 𝓤 H C Λ code.function (vptr b o ∷ []) Post)
@@ -183,7 +183,7 @@ module _ {M : Type 1} (𝓤 : URA M) (H : Heap 𝓤) (A : Atoms 𝓤) (W : Given
         assigns ! (of-opd ! (load ! (from ! (hop ! (look ! 13 refl) (fld ! refl (stop !)))) (look-in ! 0 (sub ! 0 refl (whole !))))) (from ! (stop !)) (init ! 9 refl (tt, (tt, (record { fits = LL.owed D L h _ was .0 .0 .1 .0 }, tt)))) $
         assigns ! (of-opd ! (load ! (from ! (hop ! (look ! 13 refl) (fld ! refl (stop !)))) (look-in ! 0 (sub ! 1 refl (whole !))))) (from ! (stop !)) (init ! 7 refl (tt, record { fits = LL.owed D L h _ was .1 .0 .1 })) $
         move ! (1 ∷ 5 ∷ []) $ use2 W (raw (StepAt 𝓤 H A at-mem run .pre to) ⊛ ‵ Own) (apart (LL.owed D L h _ was .1 .0 .1)) $ split ! $
-        -- [what number_at asks; what the reader owns; the cell; the open borrow; obs; auth; true; _4; …]
+        -- [what step_at asks; what the reader owns; the cell; the open borrow; obs; auth; true; _4; …]
         calls-at ! fm (StepAt 𝓤 H A at-mem run) known to (and-then ! (load ! (from ! (stop !)) (look ! 9 refl)) (and-then ! (load ! (from ! (stop !)) (look ! 7 refl)) (no-more !))) (λ u.
         use1 W (later (some (λ (r : Step). ((‵ (flft κ′ q′) ⊛ ‵ ftrue) ⊛ ‵ (N.the-row .own r (u ∷ []))) ⊛ raw (ensured 𝓤 H A step-at.ended (step-at.clauses 𝓤 H A at-mem run) (κ′, tt) (f, (pos, tt)) tt r)))) (id⊢ 𝓤 _) $ await ! tt $ pick ! (λ r.
         split ! $ move ! (1 ∷ []) $ use1 W (raw (fact 𝓤 (Found r))) (said r) $ heard ! (Found r) (λ e. split ! $ move ! (1 ∷ []) $
@@ -192,7 +192,7 @@ module _ {M : Type 1} (𝓤 : URA M) (H : Heap 𝓤) (A : Atoms 𝓤) (W : Given
         land ! (from ! (stop !)) (init ! 11 refl (LL.lawful N.the-type N′.the-laws 𝓤 H A W .typed r _ is .0)) $
         rewrite ! 11 (λ (w : Val). ‵ (fat fullShare numTy l₂ 0 w)) (ap only (LL.tells N.the-type N′.the-laws r (u ∷ []) is)) refl $
         assigns ! (of-opd ! (load ! (from ! (fld ! refl (stop !))) (look-in ! 11 (sub ! 1 refl (whole !))))) (from ! (hop ! (look ! 13 refl) (fld ! refl (stop !)))) (store-in ! 2 (sub ! 1 refl (whole !)) (tt, record { fits = at-fits r u is })) $
-        assigns ! (of-opd ! (load ! (from ! (fld ! refl (stop !))) (look-in ! 11 (sub ! 0 refl (whole !))))) (from ! (stop !)) (init ! 15 refl (EL.lawful E.the-type E′.the-laws 𝓤 H A W tt .typed (r .number) _ (number-is r u is) .0)) $
+        assigns ! (of-opd ! (load ! (from ! (fld ! refl (stop !))) (look-in ! 11 (sub ! 0 refl (whole !))))) (from ! (stop !)) (init ! 15 refl (EL.lawful E.the-type E′.the-laws 𝓤 H A W tt .typed (r .numeral) _ (numeral-is r u is) .0)) $
         -- the reader is put together at its new place, and the borrow is closed
         move ! (1 ∷ []) $ use1 W (‵ (B κ′ .own (h′ (r .at)) (mach (r .at) ∷ []))) (again (r .at) (at-fits r u is)) $ move ! (2 ∷ []) $
         use1 W (‵ (cellAt fullShare (B κ′ .mir) (mach (r .at) ∷ []) b o)) (W .laws .at-raw fullShare (T′.mir erased) b o (mach (r .at))) $
@@ -200,7 +200,7 @@ module _ {M : Type 1} (𝓤 : URA M) (H : Heap 𝓤) (A : Atoms 𝓤) (W : Given
         -- [obs; the borrow; its token; 'a's token; true; _4; …; _3; …; _2; …; _1; …; _0; …]
         returns ! (look ! 13 refl) $ forget ! 5 refl $ forget ! 7 refl $ forget ! 9 refl $ forget ! 11 refl $ forget ! 13 refl $
         move ! (13 ∷ 14 ∷ []) $ free1 ! $ move ! (11 ∷ 12 ∷ []) $ free1 ! $ move ! (9 ∷ 10 ∷ []) $ free1 ! $ move ! (7 ∷ 8 ∷ []) $ free1 ! $ move ! (5 ∷ 6 ∷ []) $ free1 ! $ free0 ! $ keep ! (0 ∷ 1 ∷ 2 ∷ 3 ∷ []) $
-        by ! (exits r e (number-is r u is)))))))))))))
+        by ! (exits r e (numeral-is r u is)))))))))))))
 
 module _ {M : Type 1} (𝓤 : URA M) (H : Heap 𝓤) (A : Atoms 𝓤) (W : Given 𝓤 H A) (mem : Memory → SProp 𝓤) (run : Routine → Fun 𝓤) where
   next-walks : (C : Calls 𝓤 H) (Λ : Loops 𝓤 H) → FmC 𝓤 H (W .laws) C → Triple 𝓤 (C #jobreader·step-at) (StepAt 𝓤 H A mem run) → Walks 𝓤 H A next.ended stayed (WpFn 𝓤 H C Λ code.function) (next.clauses 𝓤 H A mem run)

@@ -48,19 +48,19 @@ use Rattle.jobreader.proofs.new as new
 use Rattle.jobreader.proofs.new.Symbol as new-def
 use Rattle.jobreader.proofs.new.Symbol.{name as #jobreader·new}
 use Rattle.jobreader.proofs.new.Met as new-thm
-use Rattle.jobfile.specs.declared.Number.{Number}
-use Rattle.jobfile.proofs.Number as E
-use Rattle.jobfile.proofs.Number.Laws as E′
+use Rattle.jobfile.specs.declared.Numeral.{Numeral}
+use Rattle.jobfile.proofs.Numeral as E
+use Rattle.jobfile.proofs.Numeral.Laws as E′
 use Rattle.jobreader.specs.Reading
 use Rattle.jobreader.proofs.next as next
 use Rattle.jobreader.proofs.next.Symbol as next-def
 use Rattle.jobreader.proofs.next.Symbol.{name as #jobreader·next}
 use Rattle.jobreader.proofs.next.Met as next-thm
 use Rattle.paper_files.proofs.Lending.{Next, Lies, stores, loads, κs₂, Toks, arg, to-next, Way, lends, comes-back}
-use Rattle.paper_files.proofs.say.say_numbers as numbers
-use Rattle.paper_files.proofs.say.say_numbers.Symbol as numbers-def
-use Rattle.paper_files.proofs.say.say_numbers.Symbol.{name as #paper-files·say·say-numbers}
-use Rattle.paper_files.proofs.say.say_numbers.Met as numbers-thm
+use Rattle.paper_files.proofs.say.say_numerals as numerals
+use Rattle.paper_files.proofs.say.say_numerals.Symbol as numerals-def
+use Rattle.paper_files.proofs.say.say_numerals.Symbol.{name as #paper-files·say·say-numerals}
+use Rattle.paper_files.proofs.say.say_numerals.Met as numerals-thm
 use Rattle.paper_files.proofs.say_job_at as at
 use Rattle.paper_files.proofs.say_job_at.Symbol as at-def
 use Rattle.paper_files.proofs.say_job_at.Symbol.{name as #paper-files·say-job-at}
@@ -82,8 +82,8 @@ module _ {M : Type 1} (𝓤 : URA M) (H : Heap 𝓤) (A : Atoms 𝓤) (mem : Mem
   abbrev New : Contract 𝓤
   New = tripleOf 𝓤 H A new.signature (new.spec 𝓤 H A mem run)
 
-  abbrev Numbers : Contract 𝓤
-  Numbers = tripleOf 𝓤 H A numbers.signature (numbers.spec 𝓤 H A mem run)
+  abbrev Numerals : Contract 𝓤
+  Numerals = tripleOf 𝓤 H A numerals.signature (numerals.spec 𝓤 H A mem run)
 
   abbrev At : Contract 𝓤
   At = tripleOf 𝓤 H A at.signature (at.spec 𝓤 H A mem run)
@@ -141,11 +141,11 @@ module _ {M : Type 1} (𝓤 : URA M) (H : Heap 𝓤) (A : Atoms 𝓤) (W : Given
   goes-new : ent 𝓤 (⋆ 𝓤 H A (‵ Own ∷ Tok₁ ∷ [])) (New 𝓤 H A mem run .pre to-new)
   goes-new = qed W (‵ Own ∷ Tok₁ ∷ []) ∵ nothing ! $ move ! (1 ∷ 0 ∷ []) $ fjoin ! $ move ! (1 ∷ 0 ∷ []) $ join ! $ frame ! $ done !
 
-  abbrev to-numbers : Number → Number → Val → Val → Numbers 𝓤 H A mem run .Ghost
-  to-numbers m m′ u u′ = ((tt, tt, tt, (m, (m′, tt)), (u ∷ [], (u′ ∷ [], tt))), tt)
+  abbrev to-numerals : Numeral → Numeral → Val → Val → Numerals 𝓤 H A mem run .Ghost
+  to-numerals m m′ u u′ = ((tt, tt, tt, (m, (m′, tt)), (u ∷ [], (u′ ∷ [], tt))), tt)
 
-  goes-numbers : (m m′ : Number) (u u′ : Val) → Is E.the-row m (u ∷ []) → Is E.the-row m′ (u′ ∷ []) → ent 𝓤 (emp 𝓤) (Numbers 𝓤 H A mem run .pre (to-numbers m m′ u u′))
-  goes-numbers m m′ u u′ is is′ =
+  goes-numerals : (m m′ : Numeral) (u u′ : Val) → Is E.the-row m (u ∷ []) → Is E.the-row m′ (u′ ∷ []) → ent 𝓤 (emp 𝓤) (Numerals 𝓤 H A mem run .pre (to-numerals m m′ u u′))
+  goes-numerals m m′ u u′ is is′ =
       qed W [] ∵ nothing ! $ nothing ! $ owned ! E.the-row (Is E.the-row) (EL.makes E.the-type E′.the-plain 𝓤 H A) m′ _ is′ $ fjoin ! $ owned ! E.the-row (Is E.the-row) (EL.makes E.the-type E′.the-plain 𝓤 H A) m _ is $ fjoin ! $
       move ! (1 ∷ 0 ∷ []) $ join ! $ frame ! $ done !
 
@@ -174,7 +174,7 @@ module _ {M : Type 1} (𝓤 : URA M) (H : Heap 𝓤) (A : Atoms 𝓤) (W : Given
       -- [what is had of the parameters; the tokens]: with what the result owns they are all that is asked
       feqI ! (List Val) (vunit ∷ []) (vunit ∷ []) refl $ move ! (1 ∷ 0 ∷ []) $ join ! $ move ! (1 ∷ 0 ∷ []) $ join ! $ frame ! $ done !
 
-  module _ (C : Calls 𝓤 H) (Λ : Loops 𝓤 H) (fm : FmC 𝓤 H (W .laws) C) (known-new : Triple 𝓤 (C #jobreader·new) (New 𝓤 H A mem run)) (known-next : Triple 𝓤 (C #jobreader·next) (Next 𝓤 H A mem run)) (known-numbers : Triple 𝓤 (C #paper-files·say·say-numbers) (Numbers 𝓤 H A mem run)) (known-at : Triple 𝓤 (C #paper-files·say-job-at) (At 𝓤 H A mem run)) where
+  module _ (C : Calls 𝓤 H) (Λ : Loops 𝓤 H) (fm : FmC 𝓤 H (W .laws) C) (known-new : Triple 𝓤 (C #jobreader·new) (New 𝓤 H A mem run)) (known-next : Triple 𝓤 (C #jobreader·next) (Next 𝓤 H A mem run)) (known-numerals : Triple 𝓤 (C #paper-files·say·say-numerals) (Numerals 𝓤 H A mem run)) (known-at : Triple 𝓤 (C #paper-files·say-job-at) (At 𝓤 H A mem run)) where
     walk : Is (ShrSlice (named 0) κ u8) s (v ∷ []) → Room u16 (length cs) → Room u16 (length ps) → ent 𝓤 (onEntry 𝓤 H A this.signature κs₃ (q, (q₁, (q₂, tt))) a vals) (WpFn 𝓤 H C Λ code.function (v ∷ cv ∷ pv ∷ []) Post)
     walk is₀ gc gp =
         qed W (Tok ∷ ‵ (owns (ShrSlice (named 0) κ u8 ∷ MutSlice (named 1) κ₁ u16 ∷ MutSlice (named 2) κ₂ u16 ∷ []) a vals) ∷ []) ∵ enter ! C Λ code.function (v ∷ cv ∷ pv ∷ []) _ $
@@ -195,7 +195,7 @@ module _ {M : Type 1} (𝓤 : URA M) (H : Heap 𝓤) (A : Atoms 𝓤) (W : Given
         lft-new ! tt (λ a₁. use3 W (later (some (λ (γ : GName). raw (Next 𝓤 H A mem run .pre (to-next 𝓤 H A W mem run κ q l₄ a₁ γ r)) ⊛ Way 𝓤 H A W mem run κ q l₄ a₁ γ))) (lends 𝓤 H A W mem run κ q l₄ a₁ r) $ await ! tt $ pick ! (λ γ₁. split ! $
         -- [what next asks; the way back; the lists' tokens; Own; what the lists own; _14; …]
         calls-at ! fm (Next 𝓤 H A mem run) known-next (to-next 𝓤 H A W mem run κ q l₄ a₁ γ₁ r) (and-then ! (load ! (from ! (stop !)) (look ! 17 refl)) (no-more !)) (λ u₁.
-        use1 W (later (some (λ (m : Number). (Toks 𝓤 H A W mem run κ q l₄ a₁ ⊛ ‵ (E.the-row .own m (u₁ ∷ []))) ⊛ raw (ensured 𝓤 H A next.ended (next.clauses 𝓤 H A mem run) (κs₂ 𝓤 H A W mem run κ q l₄ a₁) (arg 𝓤 H A W mem run κ q l₄ a₁ γ₁ r) tt m)))) (id⊢ 𝓤 _) $ await ! tt $ pick ! (λ m₁.
+        use1 W (later (some (λ (m : Numeral). (Toks 𝓤 H A W mem run κ q l₄ a₁ ⊛ ‵ (E.the-row .own m (u₁ ∷ []))) ⊛ raw (ensured 𝓤 H A next.ended (next.clauses 𝓤 H A mem run) (κs₂ 𝓤 H A W mem run κ q l₄ a₁) (arg 𝓤 H A W mem run κ q l₄ a₁ γ₁ r) tt m)))) (id⊢ 𝓤 _) $ await ! tt $ pick ! (λ m₁.
         split ! $ move ! (1 ∷ []) $ use1 W (some (λ (ws : Lasts next.ended (κs₂ 𝓤 H A W mem run κ q l₄ a₁) (arg 𝓤 H A W mem run κ q l₄ a₁ γ₁ r)). ‵ (lasts next.ended (κs₂ 𝓤 H A W mem run κ q l₄ a₁) (arg 𝓤 H A W mem run κ q l₄ a₁ γ₁ r) ws) ⊛ raw (fact 𝓤 (Reading.Next r m₁ (ws .0))))) (id⊢ 𝓤 _) $ pick ! (λ ws₁.
         split ! $ move ! (1 ∷ []) $ let-go ! $ fsplit ! $ move ! (2 ∷ []) $ split ! $ move ! (1 ∷ []) $ facts ! E.the-row (Is E.the-row) (shows 𝓤 H A E.the-row) m₁ (u₁ ∷ []) (λ is₁.
         -- [the call's tokens; the last value; true; the way back; …]
@@ -206,16 +206,16 @@ module _ {M : Type 1} (𝓤 : URA M) (H : Heap 𝓤) (A : Atoms 𝓤) (W : Given
         lft-new ! tt (λ a₂. use3 W (later (some (λ (γ : GName). raw (Next 𝓤 H A mem run .pre (to-next 𝓤 H A W mem run κ q l₄ a₂ γ (ws₁ .0))) ⊛ Way 𝓤 H A W mem run κ q l₄ a₂ γ))) (lends 𝓤 H A W mem run κ q l₄ a₂ (ws₁ .0)) $ await ! tt $ pick ! (λ γ₂. split ! $
         -- [what next asks; the way back; the lists' tokens; Own; what the lists own; _14; …]
         calls-at ! fm (Next 𝓤 H A mem run) known-next (to-next 𝓤 H A W mem run κ q l₄ a₂ γ₂ (ws₁ .0)) (and-then ! (load ! (from ! (stop !)) (look ! 15 refl)) (no-more !)) (λ u₂.
-        use1 W (later (some (λ (m : Number). (Toks 𝓤 H A W mem run κ q l₄ a₂ ⊛ ‵ (E.the-row .own m (u₂ ∷ []))) ⊛ raw (ensured 𝓤 H A next.ended (next.clauses 𝓤 H A mem run) (κs₂ 𝓤 H A W mem run κ q l₄ a₂) (arg 𝓤 H A W mem run κ q l₄ a₂ γ₂ (ws₁ .0)) tt m)))) (id⊢ 𝓤 _) $ await ! tt $ pick ! (λ m₂.
+        use1 W (later (some (λ (m : Numeral). (Toks 𝓤 H A W mem run κ q l₄ a₂ ⊛ ‵ (E.the-row .own m (u₂ ∷ []))) ⊛ raw (ensured 𝓤 H A next.ended (next.clauses 𝓤 H A mem run) (κs₂ 𝓤 H A W mem run κ q l₄ a₂) (arg 𝓤 H A W mem run κ q l₄ a₂ γ₂ (ws₁ .0)) tt m)))) (id⊢ 𝓤 _) $ await ! tt $ pick ! (λ m₂.
         split ! $ move ! (1 ∷ []) $ use1 W (some (λ (ws : Lasts next.ended (κs₂ 𝓤 H A W mem run κ q l₄ a₂) (arg 𝓤 H A W mem run κ q l₄ a₂ γ₂ (ws₁ .0))). ‵ (lasts next.ended (κs₂ 𝓤 H A W mem run κ q l₄ a₂) (arg 𝓤 H A W mem run κ q l₄ a₂ γ₂ (ws₁ .0)) ws) ⊛ raw (fact 𝓤 (Reading.Next (ws₁ .0) m₂ (ws .0))))) (id⊢ 𝓤 _) $ pick ! (λ ws₂.
         split ! $ move ! (1 ∷ []) $ let-go ! $ fsplit ! $ move ! (2 ∷ []) $ split ! $ move ! (1 ∷ []) $ facts ! E.the-row (Is E.the-row) (shows 𝓤 H A E.the-row) m₂ (u₂ ∷ []) (λ is₂.
         -- [the call's tokens; the last value; true; the way back; …]
         move ! (0 ∷ 1 ∷ 3 ∷ []) $ use3 W (later (‵ (Lies 𝓤 H A W mem run κ q l₄ (ws₂ .0)) ⊛ Tok₁)) (comes-back 𝓤 H A W mem run κ q l₄ a₂ γ₂ (ws₂ .0)) $ await ! tt $ split ! $ move ! (2 ∷ []) $ let-go ! $
         land ! (from ! (stop !)) (init ! 21 refl (EL.lawful E.the-type E′.the-laws 𝓤 H A W tt .typed m₂ _ is₂ .0)) $
-        -- both numbers are said
-        use0 W (raw (Numbers 𝓤 H A mem run .pre (to-numbers m₁ m₂ u₁ u₂))) (goes-numbers m₁ m₂ u₁ u₂ is₁ is₂) $
-        calls-at ! fm (Numbers 𝓤 H A mem run) known-numbers (to-numbers m₁ m₂ u₁ u₂) (and-then ! (load ! (from ! (stop !)) (look ! 24 refl)) (and-then ! (load ! (from ! (stop !)) (look ! 22 refl)) (no-more !))) (λ u₃.
-        use1 W (later (some (λ (t : Unit {0}). (‵ ftrue ⊛ ‵ (Nothing .own t (u₃ ∷ []))) ⊛ raw (ensured 𝓤 H A numbers.ended (numbers.clauses 𝓤 H A mem run) tt (m₁, (m₂, tt)) tt t)))) (id⊢ 𝓤 _) $ await ! tt $ pick ! (λ t₃.
+        -- both numerals are said
+        use0 W (raw (Numerals 𝓤 H A mem run .pre (to-numerals m₁ m₂ u₁ u₂))) (goes-numerals m₁ m₂ u₁ u₂ is₁ is₂) $
+        calls-at ! fm (Numerals 𝓤 H A mem run) known-numerals (to-numerals m₁ m₂ u₁ u₂) (and-then ! (load ! (from ! (stop !)) (look ! 24 refl)) (and-then ! (load ! (from ! (stop !)) (look ! 22 refl)) (no-more !))) (λ u₃.
+        use1 W (later (some (λ (t : Unit {0}). (‵ ftrue ⊛ ‵ (Nothing .own t (u₃ ∷ []))) ⊛ raw (ensured 𝓤 H A numerals.ended (numerals.clauses 𝓤 H A mem run) tt (m₁, (m₂, tt)) tt t)))) (id⊢ 𝓤 _) $ await ! tt $ pick ! (λ t₃.
         split ! $ move ! (1 ∷ []) $ let-go ! $ split ! $ let-go ! $ feqL ! (λ e₃.
         land ! (from ! (stop !)) (init ! 13 refl (unit-typed u₃ e₃)) $
         -- the local's cell goes back to its place among the locals
@@ -243,16 +243,16 @@ module _ {M : Type 1} (𝓤 : URA M) (H : Heap 𝓤) (A : Atoms 𝓤) (W : Given
         keep ! (0 ∷ 4 ∷ 3 ∷ 1 ∷ []) $ by ! (exits (ws .1 .0) (ws .1 .1 .0) lx ly)))))))))))))))))))))))))))))))))))))))))
 
 module _ {M : Type 1} (𝓤 : URA M) (H : Heap 𝓤) (A : Atoms 𝓤) (W : Given 𝓤 H A) (mem : Memory → SProp 𝓤) (run : Routine → Fun 𝓤) where
-  this-walks : (C : Calls 𝓤 H) (Λ : Loops 𝓤 H) → FmC 𝓤 H (W .laws) C → Triple 𝓤 (C #jobreader·new) (New 𝓤 H A mem run) → Triple 𝓤 (C #jobreader·next) (Next 𝓤 H A mem run) → Triple 𝓤 (C #paper-files·say·say-numbers) (Numbers 𝓤 H A mem run) → Triple 𝓤 (C #paper-files·say-job-at) (At 𝓤 H A mem run) → Walks 𝓤 H A this.ended stayed (WpFn 𝓤 H C Λ code.function) (this.clauses 𝓤 H A mem run)
-  this-walks C Λ fm known-new known-next known-numbers known-at = walked 𝓤 H A this.ended stayed (this.clauses 𝓤 H A mem run) (WpFn 𝓤 H C Λ code.function) (λ κs. (slice-vals, (slice-vals, (slice-vals, tt))))
+  this-walks : (C : Calls 𝓤 H) (Λ : Loops 𝓤 H) → FmC 𝓤 H (W .laws) C → Triple 𝓤 (C #jobreader·new) (New 𝓤 H A mem run) → Triple 𝓤 (C #jobreader·next) (Next 𝓤 H A mem run) → Triple 𝓤 (C #paper-files·say·say-numerals) (Numerals 𝓤 H A mem run) → Triple 𝓤 (C #paper-files·say-job-at) (At 𝓤 H A mem run) → Walks 𝓤 H A this.ended stayed (WpFn 𝓤 H C Λ code.function) (this.clauses 𝓤 H A mem run)
+  this-walks C Λ fm known-new known-next known-numerals known-at = walked 𝓤 H A this.ended stayed (this.clauses 𝓤 H A mem run) (WpFn 𝓤 H C Λ code.function) (λ κs. (slice-vals, (slice-vals, (slice-vals, tt))))
       (λ κs. (shr-slice-tells (named 0) (κs .0) u8, (mut-slice-tells (named 1) (κs .1 .0) u16, (mut-slice-tells (named 2) (κs .1 .1 .0) u16, tt))))
       (λ κs qs bounds a g are. via 𝓤 _ (fst∗ 𝓤 _ (emp 𝓤)) (walk 𝓤 H A W mem run (κs .0) (κs .1 .0) (κs .1 .1 .0) (qs .0) (qs .1 .0) (qs .1 .1 .0) (a .0)
-      (a .1 .0 .ptr .0) (a .1 .0 .ptr .1) (a .1 .0 .name) (a .1 .0 .now) (a .1 .1 .0 .ptr .0) (a .1 .1 .0 .ptr .1) (a .1 .1 .0 .name) (a .1 .1 .0 .now) C Λ fm known-new known-next known-numbers known-at (are .0) (are .1 .0 .0 .1) (are .1 .1 .0 .0 .1)))
+      (a .1 .0 .ptr .0) (a .1 .0 .ptr .1) (a .1 .0 .name) (a .1 .0 .now) (a .1 .1 .0 .ptr .0) (a .1 .1 .0 .ptr .1) (a .1 .1 .0 .name) (a .1 .1 .0 .now) C Λ fm known-new known-next known-numerals known-at (are .0) (are .1 .0 .0 .1) (are .1 .1 .0 .0 .1)))
 
-this-meets : {M : Type 1} (𝓤 : URA M) (H : Heap 𝓤) (A : Atoms 𝓤) (W : Given 𝓤 H A) (mem : Memory → SProp 𝓤) (run : Routine → Fun 𝓤) (𝓣 : Tables 𝓤 H) → Triple 𝓤 (𝓣 .C #jobreader·new) (New 𝓤 H A mem run) → Triple 𝓤 (𝓣 .C #jobreader·next) (Next 𝓤 H A mem run) → Triple 𝓤 (𝓣 .C #paper-files·say·say-numbers) (Numbers 𝓤 H A mem run) → Triple 𝓤 (𝓣 .C #paper-files·say-job-at) (At 𝓤 H A mem run)
+this-meets : {M : Type 1} (𝓤 : URA M) (H : Heap 𝓤) (A : Atoms 𝓤) (W : Given 𝓤 H A) (mem : Memory → SProp 𝓤) (run : Routine → Fun 𝓤) (𝓣 : Tables 𝓤 H) → Triple 𝓤 (𝓣 .C #jobreader·new) (New 𝓤 H A mem run) → Triple 𝓤 (𝓣 .C #jobreader·next) (Next 𝓤 H A mem run) → Triple 𝓤 (𝓣 .C #paper-files·say·say-numerals) (Numerals 𝓤 H A mem run) → Triple 𝓤 (𝓣 .C #paper-files·say-job-at) (At 𝓤 H A mem run)
     → Meets 𝓤 H A this.signature (WpFn 𝓤 H (𝓣 .C) (𝓣 .Λ) code.function) (this.spec 𝓤 H A mem run)
-this-meets 𝓤 H A W mem run 𝓣 known-new known-next known-numbers known-at = walk-meets 𝓤 H A this.ended stayed W (goes-none-slice 𝓤 H A W 3 (0 ∷ []) tt (plain (λ _. u8)) yes, (goes-gave-slice 𝓤 H A W 3 1 tt (plain (λ _. u16)), (goes-gave-slice 𝓤 H A W 3 2 tt (plain (λ _. u16)), tt))) (this.clauses 𝓤 H A mem run) (WpFn 𝓤 H (𝓣 .C) (𝓣 .Λ) code.function) (WpFn-mono 𝓤 H (W .laws) 𝓣 code.function)
-    (this-walks 𝓤 H A W mem run (𝓣 .C) (𝓣 .Λ) (fmOf 𝓤 H (W .laws) 𝓣) known-new known-next known-numbers known-at)
+this-meets 𝓤 H A W mem run 𝓣 known-new known-next known-numerals known-at = walk-meets 𝓤 H A this.ended stayed W (goes-none-slice 𝓤 H A W 3 (0 ∷ []) tt (plain (λ _. u8)) yes, (goes-gave-slice 𝓤 H A W 3 1 tt (plain (λ _. u16)), (goes-gave-slice 𝓤 H A W 3 2 tt (plain (λ _. u16)), tt))) (this.clauses 𝓤 H A mem run) (WpFn 𝓤 H (𝓣 .C) (𝓣 .Λ) code.function) (WpFn-mono 𝓤 H (W .laws) 𝓣 code.function)
+    (this-walks 𝓤 H A W mem run (𝓣 .C) (𝓣 .Λ) (fmOf 𝓤 H (W .laws) 𝓣) known-new known-next known-numerals known-at)
 
 pub say-behind-two-spec : {M : Type 1} → stated.statement M
 unfolding code.routine tablesOf
@@ -262,5 +262,5 @@ say-behind-two-spec 𝓤 H 𝓜 𝓖 𝓡 =
     (this-meets 𝓤 H (𝓖 .A) (givenOf 𝓤 H 𝓜 𝓖) (𝓜 .mem) (𝓡 .run) (tablesOf 𝓤 H 𝓜 (tables 𝓤 H 𝓜 𝓡 code.env))
     (cited 𝓤 H (New 𝓤 H (𝓖 .A) (𝓜 .mem) (𝓡 .run)) 𝓜 𝓡 code.env #jobreader·new new-def.routine code.calls-jobreader·new (new-thm.met 𝓤 H 𝓜 𝓖 𝓡))
     (cited 𝓤 H (Next 𝓤 H (𝓖 .A) (𝓜 .mem) (𝓡 .run)) 𝓜 𝓡 code.env #jobreader·next next-def.routine code.calls-jobreader·next (next-thm.met 𝓤 H 𝓜 𝓖 𝓡))
-    (cited 𝓤 H (Numbers 𝓤 H (𝓖 .A) (𝓜 .mem) (𝓡 .run)) 𝓜 𝓡 code.env #paper-files·say·say-numbers numbers-def.routine code.calls-paper-files·say·say-numbers (numbers-thm.met 𝓤 H 𝓜 𝓖 𝓡))
+    (cited 𝓤 H (Numerals 𝓤 H (𝓖 .A) (𝓜 .mem) (𝓡 .run)) 𝓜 𝓡 code.env #paper-files·say·say-numerals numerals-def.routine code.calls-paper-files·say·say-numerals (numerals-thm.met 𝓤 H 𝓜 𝓖 𝓡))
     (cited 𝓤 H (At 𝓤 H (𝓖 .A) (𝓜 .mem) (𝓡 .run)) 𝓜 𝓡 code.env #paper-files·say-job-at at-def.routine code.calls-paper-files·say-job-at (at-thm.met 𝓤 H 𝓜 𝓖 𝓡)))

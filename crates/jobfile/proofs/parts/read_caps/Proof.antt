@@ -5,7 +5,7 @@ use native.Mathlib.Omega.{arith}
 use borrow.Author.Needs.{needs}
 use Rattle.jobfile.specs.Parts.{between, room}
 use Rattle.jobfile.specs.Answers.{gotOf}
-use Rattle.jobfile.proofs.Numbers.{got, value-got, refused-got}
+use Rattle.jobfile.proofs.Numerals.{got, value-got, refused-got}
 use Rattle.jobfile.proofs.Capacities.{size-total, Capping, capping-none, capping-more, capping-stop, capping-done, cap-small}
 use Rattle.jobfile.proofs.parts.read_caps.Statement.{statement}
 use Rattle.jobfile.proofs.parts.read_caps.Tie as tie
@@ -16,12 +16,12 @@ Inv-loop file at n caps₀ place₀ total₀ p₀ caps place total p = Capping f
 abbrev μ-loop : tie.MeasureT-loop
 μ-loop file at n caps₀ place₀ total₀ p₀ caps place total p = n - p
 
--- the number read, with its limit
-limit : (c : tie.After-bounded-number Inv-loop μ-loop)
-    → gotOf (c .bounded-number .result) ≡ between 0 (room (c .before .before .before .loop .total)) 3 (c .before .before .before .before .before .args .file .now) (c .before .before .before .loop .place)
+-- the numeral read, with its limit
+limit : (c : tie.After-bounded-numeral Inv-loop μ-loop)
+    → gotOf (c .bounded-numeral .result) ≡ between 0 (room (c .before .before .before .loop .total)) 3 (c .before .before .before .before .before .args .file .now) (c .before .before .before .loop .place)
 limit c =
     let l = c .before .before .before in
-    c .bounded-number .ensures ∙ ap (λ h. between 0 h 3 (l .before .before .args .file .now) (l .loop .place)) (c .before .room-for .ensures)
+    c .bounded-numeral .ensures ∙ ap (λ h. between 0 h 3 (l .before .before .args .file .now) (l .loop .place)) (c .before .room-for .ensures)
 
 -- the capacity read
 capacity : (c : tie.After-known-told Inv-loop μ-loop)
@@ -40,8 +40,8 @@ loop-holds c = capping-none _ _ _ _ (c .before .pre .1)
 room-for-requires : tie.Need-room-for-requires Inv-loop μ-loop
 room-for-requires c κs = let l = c .before .loop in omega (arith, l .inv .sum-is, size-total _ (l .inv .good))
 
-bounded-number-requires : tie.Need-bounded-number-requires Inv-loop μ-loop
-bounded-number-requires c κs = search needs
+bounded-numeral-requires : tie.Need-bounded-numeral-requires Inv-loop μ-loop
+bounded-numeral-requires c κs = search needs
 
 enum-known-got : tie.Need-enum-known-got Inv-loop μ-loop
 enum-known-got c = search needs
@@ -97,7 +97,7 @@ read-caps-spec =
     μ-loop
     loop-holds
     room-for-requires
-    bounded-number-requires
+    bounded-numeral-requires
     enum-known-got
     enum-told
     refused-with-requires

@@ -7,7 +7,7 @@ use Rattle.racks.specs.Racks.{slots}
 use Rattle.racks.specs.Job.{racksOf}
 use Rattle.racks.proofs.Jobs.{sound-slots}
 use Rattle.jobfile.specs.Parts.{between}
-use Rattle.jobfile.proofs.Numbers.{got, value-got, refused-got}
+use Rattle.jobfile.proofs.Numerals.{got, value-got, refused-got}
 use Rattle.jobfile.proofs.Entries.{Entering, entering-none, entering-stop, entering-5, entering-more, entering-done, entry-small}
 use Rattle.jobfile.proofs.parts.read_entries.Statement.{statement}
 use Rattle.jobfile.proofs.parts.read_entries.Tie as tie
@@ -24,13 +24,13 @@ below c = omega (arith, sound-slots _ (c .before .before .before .before .pre .0
 
 -- the entry that is read
 entry : (c : tie.After-known-told Inv-loop μ-loop) → got (c .before .got .given .0 .0) (c .before .got .given .0 .1 .0) ≡ between 0 4096 5 (c .before .before .before .before .before .before .before .before .args .file .now) (c .before .before .before .before .before .before .loop .place)
-entry c = value-got _ _ _ _ (c .before .got .given .1) (c .before .before .before .bounded-number .ensures)
+entry c = value-got _ _ _ _ (c .before .got .given .1) (c .before .before .before .bounded-numeral .ensures)
 
 loop-holds : tie.Need-loop-holds Inv-loop μ-loop
 loop-holds c = let s = c .before in entering-none _ _ _ _ _ (s .pre .1) (s .pre .2)
 
-bounded-number-requires : tie.Need-bounded-number-requires Inv-loop μ-loop
-bounded-number-requires c κs = search needs
+bounded-numeral-requires : tie.Need-bounded-numeral-requires Inv-loop μ-loop
+bounded-numeral-requires c κs = search needs
 
 enum-known-got : tie.Need-enum-known-got Inv-loop μ-loop
 enum-known-got c = search needs
@@ -45,7 +45,7 @@ returns : tie.Need-returns Inv-loop μ-loop
 returns c =
     let l = c .before .before .before .before .before .before in
     let s = l .before .before in
-    entering-stop (racksOf (s .args .job)) (s .args .file .now) (s .args .at) (l .loop .places) (l .loop .marks) (l .loop .g) (l .loop .place) (l .loop .worst) (l .loop .inv) (s .pre .0 .small) (below (c .before .before .before .before)) _ (refused-got _ _ _ _ (c .before .enum-told .given .1) (c .refused-with .ensures) (c .before .before .before .bounded-number .ensures))
+    entering-stop (racksOf (s .args .job)) (s .args .file .now) (s .args .at) (l .loop .places) (l .loop .marks) (l .loop .g) (l .loop .place) (l .loop .worst) (l .loop .inv) (s .pre .0 .small) (below (c .before .before .before .before)) _ (refused-got _ _ _ _ (c .before .enum-told .given .1) (c .refused-with .ensures) (c .before .before .before .bounded-numeral .ensures))
 
 entry-of-requires : tie.Need-entry-of-requires Inv-loop μ-loop
 entry-of-requires c κs =
@@ -97,7 +97,7 @@ read-entries-spec =
     Inv-loop
     μ-loop
     loop-holds
-    bounded-number-requires
+    bounded-numeral-requires
     enum-known-got
     enum-told
     refused-with-requires

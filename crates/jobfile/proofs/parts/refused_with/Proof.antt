@@ -2,7 +2,7 @@
 use mathlib.Core.Path.{sym, ap}
 use borrow.Author.Needs.{needs}
 use Rattle.jobfile.specs.Answers.{gotOf}
-use Rattle.jobfile.specs.declared.Number.{Number}
+use Rattle.jobfile.specs.declared.Numeral.{Numeral}
 use Rattle.jobfile.proofs.parts.refused_with.Statement.{statement}
 use Rattle.jobfile.proofs.parts.refused_with.Tie as tie
 
@@ -14,11 +14,11 @@ enum-known-got c = search needs
 
 returns : tie.Need-returns
 unfolding gotOf
-returns c = sym (ap (λ (r : Number). gotOf r .number) (c .enum-told .given .1))
+returns c = sym (ap (λ (r : Numeral). gotOf r .number) (c .enum-told .given .1))
 
 returns-2 : tie.Need-returns-2
 unfolding gotOf
-returns-2 c = sym (ap (λ (r : Number). gotOf r .number) (c .before .got .given .1))
+returns-2 c = sym (ap (λ (r : Numeral). gotOf r .number) (c .before .got .given .1))
 
 pub refused-with-spec : {M : Type 1} → statement M
 refused-with-spec = tie.close (tie.spec enum-told enum-known-got returns returns-2)

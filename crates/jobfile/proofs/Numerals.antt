@@ -1,4 +1,4 @@
--- Laws of numbers read and checked one after another. Assumes nothing.
+-- Laws of numerals read and checked one after another. Assumes nothing.
 use mathlib.Core.Path.{_≡_, ap, sym, _∙_}
 use mathlib.Core.Bool.{true, false, not}
 use mathlib.Core.List.{List, [], _∷_, _++_}
@@ -10,34 +10,34 @@ use borrow.Author.Tests.{ne-eqb, eqb-true, eqb-false, lt-ltb, le-ltb}
 use Rattle.counting.specs.Checks.{first, refusal, done}
 use Rattle.counting.proofs.Tests.{by-test, or-l, or-r, or-none}
 use Rattle.counting.proofs.Checks.{first-here, first-later, first-none}
-use Rattle.jobfile.specs.Number.{Got, refused, number, Numbers, numbers}
+use Rattle.jobfile.specs.Numeral.{Got, refused, numeral, Numerals, numerals}
 use Rattle.jobfile.specs.Answers.{gotOf}
 use Rattle.jobfile.specs.Parts.{checkedBy, outside}
-use Rattle.jobfile.specs.declared.Number.{Number}
-use Rattle.jobfile.specs.declared.Number.the-variants.{Value, Refused}
+use Rattle.jobfile.specs.declared.Numeral.{Numeral}
+use Rattle.jobfile.specs.declared.Numeral.the-variants.{Value, Refused}
 use Rattle.jobfile.proofs.Groups.{place-some}
 
--- a number read, its value and the place behind it
+-- a numeral read, its value and the place behind it
 abbrev pub got : ℕ → ℕ → Got
 got v p = record { number = 0; value = v; place = p }
 
--- the numbers stopped by a refusal
-abbrev pub stopped : ℕ → Numbers
+-- the numerals stopped by a refusal
+abbrev pub stopped : ℕ → Numerals
 stopped n = record { number = n; values = []; place = 0 }
 
--- the numbers read
-abbrev pub reading : List ℕ → ℕ → Numbers
+-- the numerals read
+abbrev pub reading : List ℕ → ℕ → Numerals
 reading values place = record { number = 0; values = values; place = place }
 
 -- what the cases of an answer are
-pub value-got : (r : Number) (v p : ℕ) (g : Got) → r ≡ Value v p → gotOf r ≡ g → got v p ≡ g
+pub value-got : (r : Numeral) (v p : ℕ) (g : Got) → r ≡ Value v p → gotOf r ≡ g → got v p ≡ g
 unfolding gotOf
 value-got r v p g e h = sym (ap gotOf e) ∙ h
 
 -- a refusal
-pub refused-got : (r : Number) (x n : ℕ) (g : Got) → r ≡ Refused x → n ≡ gotOf r .number → gotOf r ≡ g → refused n ≡ g
+pub refused-got : (r : Numeral) (x n : ℕ) (g : Got) → r ≡ Refused x → n ≡ gotOf r .number → gotOf r ≡ g → refused n ≡ g
 unfolding gotOf
-refused-got r x n g e k h = ap refused (k ∙ ap (λ (q : Number). gotOf q .number) e) ∙ sym (ap gotOf e) ∙ h
+refused-got r x n g e k h = ap refused (k ∙ ap (λ (q : Numeral). gotOf q .number) e) ∙ sym (ap gotOf e) ∙ h
 
 -- two refusals in their order
 abbrev pub either : ℕ → ℕ → ℕ
@@ -64,33 +64,33 @@ either-0 a b z = elim (ℕ-discrete a 0) [
 
 module _ (file : List ℕ) (at : ℕ) where
   -- a refusal is no 0
-  refused-some : (n : ℕ) → refused n ≡ number file at → n ≡ 0 → ⊥
-  unfolding number
+  refused-some : (n : ℕ) → refused n ≡ numeral file at → n ≡ 0 → ⊥
+  unfolding numeral
   refused-some n e z =
       omega (arith, place-some 3 file at 0 1 (sym (ap (λ (g : Got). g .number) e) ∙ z), ap (λ (g : Got). g .place) e)
 
   module _ (bad : ℕ → ℕ) where
-    -- what a number gives that is refused by its form, that passes, and that is bad
-    pub checked-form : (n : ℕ) → refused n ≡ number file at → refused n ≡ checkedBy bad file at
+    -- what a numeral gives that is refused by its form, that passes, and that is bad
+    pub checked-form : (n : ℕ) → refused n ≡ numeral file at → refused n ≡ checkedBy bad file at
     unfolding checkedBy
     checked-form n e = rw (← e, either-l n (bad 0) (refused-some n e), ne-eqb n 0 (refused-some n e))
 
     -- it passes
-    pub checked-value : (v p : ℕ) → got v p ≡ number file at → bad v ≡ 0 → got v p ≡ checkedBy bad file at
+    pub checked-value : (v p : ℕ) → got v p ≡ numeral file at → bad v ≡ 0 → got v p ≡ checkedBy bad file at
     unfolding checkedBy
     checked-value v p e z = rw (← e, either-r (bad v), z)
 
     -- it is bad
-    pub checked-bad : (v p n : ℕ) → got v p ≡ number file at → bad v ≡ n → (n ≡ 0 → ⊥) → refused n ≡ checkedBy bad file at
+    pub checked-bad : (v p n : ℕ) → got v p ≡ numeral file at → bad v ≡ n → (n ≡ 0 → ⊥) → refused n ≡ checkedBy bad file at
     unfolding checkedBy
     checked-bad v p n e b f = rw (← e, either-r (bad v), b, ne-eqb n 0 f)
 
   module _ (f : ℕ → ℕ) where
     -- the number that it is refused with
     abbrev with-f : ℕ
-    with-f = either (number file at .number) (f (number file at .value))
+    with-f = either (numeral file at .number) (f (numeral file at .value))
 
-    checked-done : done with-f ≡ true → checkedBy f file at ≡ number file at
+    checked-done : done with-f ≡ true → checkedBy f file at ≡ numeral file at
     unfolding checkedBy
     checked-done t = rw t
 
@@ -98,9 +98,9 @@ module _ (file : List ℕ) (at : ℕ) where
     unfolding checkedBy
     checked-not t = rw t
 
-    -- back again: a number that passes was read, and is not bad
-    pub passed-number : (v p : ℕ) → got v p ≡ checkedBy f file at → got v p ≡ number file at
-    passed-number v p e = by-test (done with-f)
+    -- back again: a numeral that passes was read, and is not bad
+    pub passed-numeral : (v p : ℕ) → got v p ≡ checkedBy f file at → got v p ≡ numeral file at
+    passed-numeral v p e = by-test (done with-f)
         (λ t. e ∙ checked-done t)
         (λ t. absurd (eqb-false with-f 0 t (sym (ap (λ (g : Got). g .number) (e ∙ checked-not t)))))
 
@@ -117,21 +117,21 @@ module _ (file : List ℕ) (at : ℕ) where
         (λ t. let q : n ≡ with-f = ap (λ (g : Got). g .number) (e ∙ checked-not t) in (q, λ z. eqb-false with-f 0 t (sym q ∙ z)))
 
   module _ (bad : List ℕ → ℕ → ℕ) (left : ℕ) (before : List ℕ) where
-    -- one number more, by what it gives
-    numbers-on : (v p : ℕ) → got v p ≡ number file at → bad before v ≡ 0 → numbers bad (suc left) file at before ≡ numbers bad left file p (before ++ v ∷ [])
-    unfolding numbers
-    numbers-on v p e z = rw (← e, either-r (bad before v), z)
+    -- one numeral more, by what it gives
+    numerals-on : (v p : ℕ) → got v p ≡ numeral file at → bad before v ≡ 0 → numerals bad (suc left) file at before ≡ numerals bad left file p (before ++ v ∷ [])
+    unfolding numerals
+    numerals-on v p e z = rw (← e, either-r (bad before v), z)
 
-    numbers-wrong : (v p m : ℕ) → got v p ≡ number file at → bad before v ≡ m → (m ≡ 0 → ⊥) → numbers bad (suc left) file at before ≡ stopped m
-    unfolding numbers
-    numbers-wrong v p m e b f = rw (← e, either-r (bad before v), b, ne-eqb m 0 f)
+    numerals-wrong : (v p m : ℕ) → got v p ≡ numeral file at → bad before v ≡ m → (m ≡ 0 → ⊥) → numerals bad (suc left) file at before ≡ stopped m
+    unfolding numerals
+    numerals-wrong v p m e b f = rw (← e, either-r (bad before v), b, ne-eqb m 0 f)
 
-    -- the number stops them where the code's check f refuses it, and what f refuses is bad
+    -- the numeral stops them where the code's check f refuses it, and what f refuses is bad
     module _ (f : ℕ → ℕ) (as-bad : (v : ℕ) → (f v ≡ 0 → ⊥) → bad before v ≡ f v) where
-      stop-number : (m : ℕ) → (m ≡ with-f f) × (m ≡ 0 → ⊥) → either (number file at .number) (bad before (number file at .value)) ≡ m
+      stop-number : (m : ℕ) → (m ≡ with-f f) × (m ≡ 0 → ⊥) → either (numeral file at .number) (bad before (numeral file at .value)) ≡ m
       stop-number m r =
-          let a = number file at .number in
-          let v = number file at .value in
+          let a = numeral file at .number in
+          let v = numeral file at .value in
           elim (ℕ-discrete a 0) [
             | no n ↦ either-l a (bad before v) n ∙ sym (either-l a (f v) n) ∙ sym (r .0)
             | yes z ↦
@@ -140,17 +140,17 @@ module _ (file : List ℕ) (at : ℕ) where
           ]
 
       -- so they are stopped
-      pub numbers-stop : (m : ℕ) → refused m ≡ checkedBy f file at → numbers bad (suc left) file at before ≡ stopped m
-      unfolding numbers
-      numbers-stop m e = rw (stop-number m (refused-by f m e), ne-eqb m 0 (refused-by f m e .1))
+      pub numerals-stop : (m : ℕ) → refused m ≡ checkedBy f file at → numerals bad (suc left) file at before ≡ stopped m
+      unfolding numerals
+      numerals-stop m e = rw (stop-number m (refused-by f m e), ne-eqb m 0 (refused-by f m e .1))
 
-    -- they go on behind a number that passes
-    pub numbers-go : (f : ℕ → ℕ) (v p : ℕ) → got v p ≡ checkedBy f file at → bad before v ≡ 0 → numbers bad (suc left) file at before ≡ numbers bad left file p (before ++ v ∷ [])
-    numbers-go f v p e z = numbers-on v p (passed-number f v p e) z
+    -- they go on behind a numeral that passes
+    pub numerals-go : (f : ℕ → ℕ) (v p : ℕ) → got v p ≡ checkedBy f file at → bad before v ≡ 0 → numerals bad (suc left) file at before ≡ numerals bad left file p (before ++ v ∷ [])
+    numerals-go f v p e z = numerals-on v p (passed-numeral f v p e) z
 
     -- they are stopped by one that is bad
-    pub numbers-bad : (f : ℕ → ℕ) (v p m : ℕ) → got v p ≡ checkedBy f file at → bad before v ≡ m → (m ≡ 0 → ⊥) → numbers bad (suc left) file at before ≡ stopped m
-    numbers-bad f v p m e b n = numbers-wrong v p m (passed-number f v p e) b n
+    pub numerals-bad : (f : ℕ → ℕ) (v p m : ℕ) → got v p ≡ checkedBy f file at → bad before v ≡ m → (m ≡ 0 → ⊥) → numerals bad (suc left) file at before ≡ stopped m
+    numerals-bad f v p m e b n = numerals-wrong v p m (passed-numeral f v p e) b n
 
 -- between two limits, by the tests that the code makes
 module _ (low high n x : ℕ) where

@@ -4,20 +4,20 @@ use Prim.Native.Nat.{_-_}
 use native.Mathlib.Omega.{arith}
 use lib.ListN.{getD}
 use borrow.Author.Needs.{needs}
-use Rattle.jobfile.specs.Number.{groups, number}
+use Rattle.jobfile.specs.Numeral.{groups, numeral}
 use Rattle.jobfile.specs.Answers.{gotOf}
 use Rattle.jobfile.proofs.Groups.{Weighed, weighed-none, weighed-more, product-small, group-15, group-last, group-more, group-14}
-use Rattle.jobfile.proofs.parts.next_number.Statement.{statement}
-use Rattle.jobfile.proofs.parts.next_number.Tie as tie
+use Rattle.jobfile.proofs.parts.next_numeral.Statement.{statement}
+use Rattle.jobfile.proofs.parts.next_numeral.Tie as tie
 
 abbrev Inv-loop : tie.InvT-loop
-Inv-loop file at value₀ weight₀ place₀ left₀ value weight place left = Weighed left value weight × (groups left file place value weight ≡ number file at)
+Inv-loop file at value₀ weight₀ place₀ left₀ value weight place left = Weighed left value weight × (groups left file place value weight ≡ numeral file at)
 
 abbrev μ-loop : tie.MeasureT-loop
 μ-loop file at value₀ weight₀ place₀ left₀ value weight place left = left
 
 loop-holds : tie.Need-loop-holds Inv-loop μ-loop
-unfolding number
+unfolding numeral
 loop-holds c = (weighed-none, refl)
 
 returns : tie.Need-returns Inv-loop μ-loop
@@ -74,8 +74,8 @@ returns-3 c =
     let l = c .before in
     sym (group-14 (l .before .before .args .file .now) (l .loop .left) (l .loop .place) (l .loop .value) (l .loop .weight) (omega arith)) ∙ l .loop .inv .1
 
-pub next-number-spec : {M : Type 1} → statement M
-next-number-spec =
+pub next-numeral-spec : {M : Type 1} → statement M
+next-numeral-spec =
     tie.close
     (tie.spec
     Inv-loop
