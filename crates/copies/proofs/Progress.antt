@@ -50,6 +50,10 @@ no-copies : (places : List ℕ) → copies places [] ≡ []
 unfolding copies
 no-copies places = refl
 
+-- so no copies are where it is marked
+pub marked-none : (places seen : List ℕ) (mark k : ℕ) → getD seen k 0 ≡ mark → copies places (due places mark seen k) ≡ []
+marked-none places seen mark k e = ap (copies places) (due-none places seen mark k e) ∙ no-copies places
+
 -- at slot k: some slots are marked, and of the copy list these copies are made, those of later factors left
 pub record Progress (places : List ℕ) (mark k : ℕ) (start seen : List ℕ) (made : List Pair) : Type 0 where
   pub done : List ℕ
@@ -142,7 +146,7 @@ module _ (places : List ℕ) (mark k at : ℕ) (start seen : List ℕ) (p : Coun
 -- slot k is marked: nothing is counted
 pub counted-none : (places seen : List ℕ) (mark k at : ℕ) → getD seen k 0 ≡ mark → Counted places mark k at seen at seen
 counted-none places seen mark k at e = record {
-  count-is = let z : length (copies places (due places mark seen k)) ≡ 0 = ap length (ap (copies places) (due-none places seen mark k e) ∙ no-copies places) in omega arith;
+  count-is = let z : length (copies places (due places mark seen k)) ≡ 0 = ap length (marked-none places seen mark k e) in omega arith;
   marked = rw (due-none places seen mark k e) (mark-none mark seen);
 }
 
@@ -194,5 +198,5 @@ module _ (places : List ℕ) (mark k at : ℕ) (start seen list after : List ℕ
 pub written-none : (places seen list : List ℕ) (mark k at : ℕ) → getD seen k 0 ≡ mark → Written places mark k at list seen at list seen
 written-none places seen list mark k at e = record {
   counted = counted-none places seen mark k at e;
-  list-is = sym (put-none list at) ∙ ap (putCopies list at) (sym (ap (copies places) (due-none places seen mark k e) ∙ no-copies places));
+  list-is = sym (put-none list at) ∙ ap (putCopies list at) (sym (marked-none places seen mark k e));
 }

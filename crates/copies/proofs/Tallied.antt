@@ -24,3 +24,7 @@ module _ (t s : Tally) (i : ℕ) (e : s ≡ plusCopies i t) where
   -- all
   pub plus-all : (n : ℕ) → i ≡ n → s ≡ plusCopies n t
   plus-all n q = e ∙ ap (λ (m : ℕ). plusCopies m t) q
+
+-- some, and then others
+pub plus-both : (t s r : Tally) (m n k : ℕ) → s ≡ plusCopies m t → r ≡ plusCopies n s → k ≡ m + n → r ≡ plusCopies k t
+plus-both t s r m n k p q e = let a : t .copies + m + n ≡ t .copies + k = omega arith in q ∙ ap (plusCopies n) p ∙ ap (with-copies t) a

@@ -1,29 +1,25 @@
--- Copies made one at a time, by slots and the hand, as the list has them. Assumes nothing.
+-- Copies made one at a time: along a chain, by the hand, factor by factor. Assumes nothing.
 use mathlib.Core.Path.{_≡_, refl, sym, ap, _∙_}
-use mathlib.Core.Logic.{_≢_, inl, inr}
+use mathlib.Core.Logic.{_≢_}
 use mathlib.Core.List.{List, [], _∷_, _++_}
-use Prim.Native.Nat.{ℕ, zero, suc, _+_, _*_, _≤_, _<_}
+use Prim.Native.Nat.{ℕ, zero, suc, _+_, _-_, _*_, _≤_, _<_}
 use native.Mathlib.Omega.{arith}
-use native.Mathlib.Numerals.{add-one}
-use native.Mathlib.Decide.{ℕ-discrete}
-use lib.ListN.{length, getD, take, replicate, List·getD-append}
-use lib.Seq.{sets, sets-eq}
-use borrow.Author.Tests.{eq-eqb, ne-eqb}
-use Rattle.counting.specs.Lists.{Pair, table, flat}
-use Rattle.counting.specs.Every.{All}
-use Rattle.counting.specs.Every.All.{more}
-use Rattle.counting.proofs.Lists.{table-is}
-use Rattle.racks.specs.Limits.{HAND}
+use native.Mathlib.Nat.{zero-add}
+use lib.ListN.{length, getD, take, replicate, length-append}
+use Rattle.counting.specs.Lists.{Pair}
+use Rattle.racks.specs.Limits.{FREE, HAND}
+use Rattle.answers.specs.Answers.{plusCopies}
+use Rattle.answers.specs.declared.Tally.{Tally}
 use Rattle.moves.specs.Blocks.{block, putBlock, blank}
 use Rattle.moves.proofs.Blocks.{length-put, within}
-use Rattle.copies.specs.Copies.{copyList}
+use Rattle.copies.specs.Copies.{next, shift, copies, copyList}
 use Rattle.copies.specs.Chains.{Chained}
-use Rattle.copies.specs.Writes.{putCopies, AllWritten}
-use Rattle.copies.proofs.Costs.{list-most}
-use Rattle.copies.proofs.Home.{ProperCopy, list-proper}
-use Rattle.counting.proofs.Stores.{length-flat}
+use Rattle.copies.specs.Writes.{steps, Inside, walkCount, Unmarked, due, Walked}
+use Rattle.copies.proofs.Tallied.{plus-none, plus-both}
+use Rattle.copies.proofs.Writing.{inside-here, walked-shift, walked-hand, count-shift, count-hand}
+use Rattle.copies.proofs.Progress.{Progress, progress-start, progress-end, progress-room, progress-more, few-copies, marked-none, counted-none, counted-due, due-copies}
 use Rattle.shuffle.specs.Shuffle.{Hands, taken, laid, runCopies, brought}
-use Rattle.shuffle.specs.Hands.{handed, copyMade, Reached, HandedAs, copyAt, copiesIn, AllReached}
+use Rattle.shuffle.specs.Hands.{handed, copyMade, slid, HandedAs, WalkBrought, SlotBrought, AllBrought}
 use Rattle.shuffle.proofs.Bytes.{taken-hand, taken-slot, laid-hand, laid-slot}
 
 -- one copy
@@ -43,86 +39,171 @@ module _ (b from to : ℕ) (cards hand : List ℕ) where
   unfolding handed copyMade
   made-slots q r from′ to′ s t cards′ p = rw (taken-slot b from (handed b cards hand) q, laid-slot b to (block b from cards) (handed b cards hand) r, p, s, t)
 
--- a copy keeps the length of the buffer
-made-long : (b from to : ℕ) (h : Hands) → length (copyMade b from to h .cards) ≡ length (h .cards)
-unfolding copyMade laid
-made-long b from to h = elim (ℕ-discrete to HAND) [ yes e ↦ rw (eq-eqb to HAND e) | no q ↦ rw (ne-eqb to HAND q) (length-put b to (taken b from h) (h .cards)) ]
-
--- and so does what the code has after it
-pub handed-long : (b from to : ℕ) (cards hand cards′ hand′ : List ℕ) → HandedAs b cards′ hand′ (copyMade b from to (handed b cards hand)) → length cards′ ≡ length cards
-unfolding handed
-handed-long b from to cards hand cards′ hand′ a = ap (λ (h : Hands). length (h .cards)) (a .is) ∙ made-long b from to (handed b cards hand)
-
 -- copies and then one more
 run-snoc : (b : ℕ) (cs : List Pair) (c : Pair) (h : Hands) → runCopies b (cs ++ c ∷ []) h ≡ copyMade b (c .0) (c .1) (runCopies b cs h)
 unfolding runCopies copyMade
 run-snoc b [] c h = refl
 run-snoc b (x ∷ cs) c h = run-snoc b cs c (laid b (x .1) (taken b (x .0) h) h)
 
--- no copies
-pub run-none : (b : ℕ) (list cards hand : List ℕ) → length hand ≡ 256 → HandedAs b cards hand (runCopies b (copiesIn 0 list) (handed b cards hand))
-unfolding copiesIn table runCopies
-run-none b list cards hand l = record { is = refl; long = l }
+-- copies and then others
+pub run-append : (b : ℕ) (cs ds : List Pair) (h : Hands) → runCopies b (cs ++ ds) h ≡ runCopies b ds (runCopies b cs h)
+unfolding runCopies
+run-append b [] ds h = refl
+run-append b (x ∷ cs) ds h = run-append b cs ds (laid b (x .1) (taken b (x .0) h) h)
 
--- one copy more
-pub run-more : (b i : ℕ) (list cards hand cards′ hand′ : List ℕ) (h : Hands) → HandedAs b cards hand (runCopies b (copiesIn i list) h)
-    → HandedAs b cards′ hand′ (copyMade b (copyAt list i .0) (copyAt list i .1) (handed b cards hand)) → HandedAs b cards′ hand′ (runCopies b (copiesIn (i + 1) list) h)
-unfolding copiesIn table
-run-more b i list cards hand cards′ hand′ h a m = record {
-  is = m .is ∙ rw (a .is, add-one i) (sym (run-snoc b (table i (copyAt list)) (copyAt list i) h));
-  long = m .long;
+-- from slot to slot
+slid-snoc : (b : ℕ) (cs : List Pair) (c : Pair) (cards : List ℕ) → slid b (cs ++ c ∷ []) cards ≡ putBlock b (c .1) (block b (c .0) (slid b cs cards)) (slid b cs cards)
+unfolding slid
+slid-snoc b [] c cards = refl
+slid-snoc b (x ∷ cs) c cards = slid-snoc b cs c (putBlock b (x .1) (block b (x .0) cards) cards)
+
+-- the buffer stays as long as it is
+pub length-slid : (b : ℕ) (cs : List Pair) (cards : List ℕ) → length (slid b cs cards) ≡ length cards
+unfolding slid
+length-slid b [] cards = refl
+length-slid b (c ∷ cs) cards = length-slid b cs (putBlock b (c .1) (block b (c .0) cards) cards) ∙ length-put b (c .1) (block b (c .0) cards) cards
+
+-- so a slot is within it
+pub slid-within : (b n g : ℕ) (cs : List Pair) (cards after : List ℕ) → after ≡ slid b cs cards → length cards ≡ n * b → g < n → g * b + b ≤ length after
+slid-within b n g cs cards after e l h = within b n g after (ap length e ∙ length-slid b cs cards ∙ l) h
+
+-- and one copy more keeps its length
+pub slid-long : (b y : ℕ) (cs : List Pair) (bytes cards l m : List ℕ) → l ≡ slid b cs cards → m ≡ putBlock b y bytes l → length m ≡ length cards
+slid-long b y cs bytes cards l m e p = ap length p ∙ length-put b y bytes l ∙ ap length e ∙ length-slid b cs cards
+
+-- the cards of a chain: none
+pub slid-none : (b n x : ℕ) (f : ℕ → ℕ) (cards : List ℕ) → n ≡ 0 → cards ≡ slid b (shift x (steps f n x)) cards
+unfolding shift steps slid
+slid-none b n x f cards e = rw e
+
+-- those of the slots after x, and then x's
+pub slid-more : (b n x y : ℕ) (f : ℕ → ℕ) (cards l m : List ℕ) → n ≢ 0 → y ≡ f x → l ≡ slid b (shift y (steps f (n - 1) y)) cards → m ≡ putBlock b y (block b x l) l → m ≡ slid b (shift x (steps f n x)) cards
+unfolding shift steps
+slid-more b zero x y f cards l m q e p r = absurd (q refl)
+slid-more b (suc n) x y f cards l m q e p r =
+    let z : suc n - 1 ≡ n = omega arith in
+    r ∙ rw (p, z, ← e) (sym (slid-snoc b (shift y (steps f n y)) (x, y) cards))
+
+-- a chain of slots is run without the hand
+pub run-chain : (b : ℕ) (places cards hand : List ℕ) (n x : ℕ) → Inside places n x → length places ≤ 4096
+    → runCopies b (shift x (steps (next places) n x)) (handed b cards hand) ≡ handed b (slid b (shift x (steps (next places) n x)) cards) hand
+unfolding shift steps runCopies slid Inside
+run-chain b places cards hand zero x w l = refl
+run-chain b places cards hand (suc n) x w l =
+    let y : ℕ = next places x in
+    let cs : List Pair = shift y (steps (next places) n y) in
+    let low : y < length places = inside-here places n y (w .1) in
+    let i = run-chain b places cards hand n y (w .1) l in
+    rw (run-snoc b cs (x, y), i, slid-snoc b cs (x, y) cards)
+    (sym (made-slots b x y (slid b cs cards) hand (λ e. omega (arith, w .0)) (λ e. omega arith) x y refl refl (putBlock b y (block b x (slid b cs cards)) (slid b cs cards)) refl))
+
+-- a factor's cards
+module _ (b : ℕ) (places : List ℕ) (h n end : ℕ) (inside : Inside places n h) (few : length places ≤ 4096) (cards hand : List ℕ) (long : length hand ≡ 256) where
+  -- along a shift
+  pub brought-shift : end ≡ FREE → (r : ℕ) (cards′ : List ℕ) → r ≡ n → cards′ ≡ slid b (shift h (steps (next places) n h)) cards → WalkBrought b places h n end cards hand r cards′ hand
+  brought-shift e r cards′ i p = record {
+    count-is = i ∙ sym (count-shift n end e);
+    brings = record { is = ap (λ (l : List ℕ). handed b l hand) p ∙ sym (run-chain b places cards hand n h inside few) ∙ ap (λ (cs : List Pair). runCopies b cs (handed b cards hand)) (sym (walked-shift places h n end e)); long = long };
+    size = ap length p ∙ length-slid b (shift h (steps (next places) n h)) cards;
+  }
+
+  -- by the hand
+  pub brought-hand : end ≢ FREE → end < length places → (r from : ℕ) (hand₁ cards₂ cards₃ : List ℕ) → r ≡ n → from ≡ end
+      → take b hand₁ ≡ block b from cards → length hand₁ ≡ 256 → cards₂ ≡ slid b (shift h (steps (next places) n h)) cards → cards₃ ≡ putBlock b h (take b hand₁) cards₂
+      → WalkBrought b places h n end cards hand (r + 2) cards₃ hand₁
+  unfolding runCopies copyMade
+  brought-hand q l r from hand₁ cards₂ cards₃ i j p m o s =
+      let cs : List Pair = shift h (steps (next places) n h) in
+      let low : h < length places = inside-here places n h inside in
+      let one : handed b cards hand₁ ≡ copyMade b end HAND (handed b cards hand) = made-to-hand b end HAND cards hand refl from j (λ e. omega arith) hand₁ p in
+      let two : handed b cards₂ hand₁ ≡ runCopies b cs (copyMade b end HAND (handed b cards hand)) =
+      ap (λ (l : List ℕ). handed b l hand₁) o ∙ sym (run-chain b places cards hand₁ n h inside few) ∙ ap (runCopies b cs) one in
+      let three : handed b cards₃ hand₁ ≡ copyMade b HAND h (handed b cards₂ hand₁) = made-from-hand b HAND h cards₂ hand₁ refl h refl (λ e. omega arith) cards₃ s in
+      record {
+        count-is = ap (λ (k : ℕ). k + 2) i ∙ sym (count-hand n end q);
+        brings = record {
+          is = three ∙ ap (copyMade b HAND h) two ∙ sym (run-snoc b cs (HAND, h) (copyMade b end HAND (handed b cards hand)))
+              ∙ ap (λ (ds : List Pair). runCopies b ds (handed b cards hand)) (sym (walked-hand places h n end q));
+          long = m;
+        };
+        size = ap length s ∙ length-put b h (take b hand₁) cards₂ ∙ ap length o ∙ length-slid b cs cards;
+      }
+
+-- slot k is marked: nothing is due
+pub slot-none : (b : ℕ) (places : List ℕ) (k : ℕ) (seen cards hand : List ℕ) → getD seen k 0 ≡ 1 → length hand ≡ 256 → SlotBrought b places k seen cards hand 0 seen cards hand
+unfolding runCopies
+slot-none b places k seen cards hand e l = record {
+  counted = counted-none places seen 1 k 0 e;
+  brings = record { is = ap (λ (cs : List Pair). runCopies b cs (handed b cards hand)) (sym (marked-none places seen 1 k e)); long = l };
+  size = refl;
 }
 
--- copies are read from a list as they were written
-flat-at : (cs : List Pair) (k : ℕ) → k < length cs → getD cs k (0, 0) ≡ copyAt (flat cs) k
-unfolding flat copyAt
-flat-at [] k l = absurd (omega arith)
-flat-at (c ∷ cs) zero l = refl
-flat-at (c ∷ cs) (suc k) l =
-    let e : 2 * suc k ≡ suc (suc (2 * k)) = omega arith in
-    let f : 2 * suc k + 1 ≡ suc (suc (2 * k + 1)) = omega arith in
-    flat-at cs k (omega arith) ∙ rw (f, e)
+-- it is not: its factor is brought
+pub slot-brought : (b : ℕ) (places : List ℕ) (k : ℕ) (seen cards hand : List ℕ) → getD seen k 0 ≢ 1 → (h n end : ℕ) (marks : List ℕ) → Walked places 1 k seen h n end marks
+    → (r : ℕ) (cards′ hand′ : List ℕ) → WalkBrought b places h n end cards hand r cards′ hand′ → SlotBrought b places k seen cards hand r marks cards′ hand′
+slot-brought b places k seen cards hand q h n end marks w r cards′ hand′ v = record {
+  counted = counted-due places seen 1 k q h n end marks w 0 r (v .count-is ∙ sym (zero-add (walkCount n end)));
+  brings = record { is = v .brings .is ∙ ap (λ (cs : List Pair). runCopies b cs (handed b cards hand)) (sym (due-copies places seen 1 k q h n end marks w)); long = v .brings .long };
+  size = v .size;
+}
 
-front-at : (vs l : List ℕ) (j : ℕ) → length vs ≤ length l → j < length vs → getD (sets l 0 vs) j 0 ≡ getD vs j 0
-front-at vs l j h k =
-    let r : 0 + length vs ≤ length l = omega arith in
-    rw (sets-eq vs l 0 r) (List·getD-append vs _ 0 j k)
+-- the factors of the slots before k are brought
+pub record Bringing (b : ℕ) (places : List ℕ) (k : ℕ) (start seen cards₀ hand₀ cards hand : List ℕ) (tally sum : Tally) : Type 0 where
+  pub made : List Pair
+  pub progress : Progress places 1 k start seen made
+  pub count-is : sum ≡ plusCopies (length made) tally
+  pub brings : HandedAs b cards hand (runCopies b made (handed b cards₀ hand₀))
+  pub size : length cards ≡ length cards₀
 
-module _ {places list after : List ℕ} {count : ℕ} (ok : Chained places) (w : AllWritten places list count after) (long : length list ≡ 12288) where
-  size : length (flat (copyList places)) ≤ length list
-  size = omega (arith, length-flat (copyList places), list-most ok, ok .small)
+-- none is
+pub bringing-start : (b : ℕ) (places start cards hand : List ℕ) (tally : Tally) → length hand ≡ 256 → Bringing b places 0 start start cards hand cards hand tally tally
+unfolding runCopies
+bringing-start b places start cards hand tally l = record {
+  made = [];
+  progress = progress-start places start 1;
+  count-is = plus-none tally;
+  brings = record { is = refl; long = l };
+  size = refl;
+}
 
-  at-copy : (k : ℕ) → k < count → getD (copyList places) k (0, 0) ≡ copyAt after k
-  unfolding copyAt putCopies
-  at-copy k l =
-      let m : 2 * k < length (flat (copyList places)) = omega (arith, length-flat (copyList places), w .count-is) in
-      let n : 2 * k + 1 < length (flat (copyList places)) = omega (arith, length-flat (copyList places), w .count-is) in
-      flat-at (copyList places) k (omega (arith, w .count-is)) ∙ rw (w .list-is, front-at (flat (copyList places)) list (2 * k) size m, front-at (flat (copyList places)) list (2 * k + 1) size n)
-
-  -- the copies in the list are the copy list
-  pub read-back : copiesIn count after ≡ copyList places
-  unfolding copiesIn
-  read-back = sym (table-is count (copyAt after) (copyList places) (0, 0) (sym (w .count-is)) at-copy)
-
-  -- there are at most 6,144
-  pub count-few : count ≤ 6144
-  count-few = omega (arith, w .count-is, list-most ok, ok .small)
-
-  -- their ends are within the buffer
-  pub all-reached : (b : ℕ) (cards : List ℕ) → length cards ≡ length places * b → AllReached b (length cards) count after
-  all-reached b cards e i l = rw (at-copy i l) at (reach (getD (copyList places) i (0, 0)) (all-at (copyList places) i (list-proper ok) (omega (arith, w .count-is))))
-    where
-      all-at : (cs : List Pair) (k : ℕ) → All (ProperCopy (length places)) cs → k < length cs → ProperCopy (length places) (getD cs k (0, 0))
-      all-at [] k a h = absurd (omega arith)
-      all-at (c ∷ cs) zero (more p a) h = p
-      all-at (c ∷ cs) (suc k) (more p a) h = all-at cs k a (omega arith)
-
-      reach : (c : Pair) → ProperCopy (length places) c → Reached b (length cards) (c .0) (c .1)
-      reach c p = record {
-        differ = p .differ;
-        source = λ q. elim (p .source) [ inl m ↦ within b (length places) (c .0) cards e m | inr m ↦ absurd (q m) ];
-        target = λ q. elim (p .target) [ inl m ↦ within b (length places) (c .1) cards e m | inr m ↦ absurd (q m) ];
+module _ (b : ℕ) (places : List ℕ) (k : ℕ) (start seen cards₀ hand₀ cards hand : List ℕ) (tally sum : Tally) (p : Bringing b places k start seen cards₀ hand₀ cards hand tally sum) where
+  -- behind the last slot all are
+  pub bringing-end : k ≡ length places → AllBrought b places cards₀ hand₀ tally sum cards
+  unfolding handed
+  bringing-end e =
+      let all = progress-end places 1 k start seen (p .made) (p .progress) e in
+      record {
+        count-is = p .count-is ∙ ap (λ (n : ℕ). plusCopies n tally) (ap length (sym all));
+        brings = ap (λ (h : Hands). h .cards) (p .brings .is) ∙ ap (λ (cs : List Pair). runCopies b cs (handed b cards₀ hand₀) .cards) (sym all);
+        size = p .size;
       }
+
+  module _ (ok : Chained places) (fresh : Unmarked 1 start) (low : k < length places) where
+    room : length (p .made) + length (copies places (due places 1 seen k)) ≤ 6144
+    room = omega (arith, progress-room places 1 k start seen (p .made) (p .progress) fresh low, few-copies ok)
+
+    -- the copies of slot k are few
+    pub bringing-few : length (copies places (due places 1 seen k)) ≤ 6144
+    bringing-few = omega (arith, room)
+
+    -- the tally has room for them
+    pub bringing-room : tally .copies ≡ 0 → (n : ℕ) → n ≡ 0 + length (copies places (due places 1 seen k)) → sum .copies + n < 18446744073709551616
+    bringing-room z n e = omega (arith, room, ap (λ (t : Tally). t .copies) (p .count-is))
+
+    -- those of slot k too
+    pub bringing-more : (n : ℕ) (seen₂ cards₂ hand₂ : List ℕ) (sum₂ : Tally) → SlotBrought b places k seen cards hand n seen₂ cards₂ hand₂ → sum₂ ≡ plusCopies n sum
+        → Bringing b places (k + 1) start seen₂ cards₀ hand₀ cards₂ hand₂ tally sum₂
+    bringing-more n seen₂ cards₂ hand₂ sum₂ v e = record {
+      made = p .made ++ copies places (due places 1 seen k);
+      progress = progress-more places 1 k start seen (p .made) (p .progress) fresh low seen₂ (v .counted .marked);
+      count-is = plus-both tally sum sum₂ (length (p .made)) n (length (p .made ++ copies places (due places 1 seen k))) (p .count-is) e
+          (omega (arith, v .counted .count-is, length-append (p .made) (copies places (due places 1 seen k))));
+      brings = record {
+        is = v .brings .is ∙ ap (runCopies b (copies places (due places 1 seen k))) (p .brings .is) ∙ sym (run-append b (p .made) (copies places (due places 1 seen k)) (handed b cards₀ hand₀));
+        long = v .brings .long;
+      };
+      size = v .size ∙ p .size;
+    }
 
 take-zeros : (b n : ℕ) → b ≤ n → take b (replicate {A = ℕ} n 0) ≡ replicate b 0
 take-zeros zero n l = refl
@@ -135,8 +216,6 @@ unfolding handed blank
 first-hand b cards l = rw (take-zeros b 256 l)
 
 -- the cards after all copies
-pub run-brought : (b count : ℕ) (places list cards cards′ hand′ : List ℕ) → b ≤ 256 → copiesIn count list ≡ copyList places
-    → HandedAs b cards′ hand′ (runCopies b (copiesIn count list) (handed b cards (replicate 256 0))) → cards′ ≡ brought b places cards
-unfolding handed brought
-run-brought b count places list cards cards′ hand′ l e a =
-    ap (λ (h : Hands). h .cards) (a .is ∙ ap (λ (cs : List Pair). runCopies b cs (handed b cards (replicate 256 0))) e ∙ ap (runCopies b (copyList places)) (first-hand b cards l))
+pub all-brought : (b : ℕ) (places cards cards′ : List ℕ) (tally after : Tally) → b ≤ 256 → AllBrought b places cards (replicate 256 0) tally after cards′ → cards′ ≡ brought b places cards
+unfolding brought
+all-brought b places cards cards′ tally after l a = a .brings ∙ ap (λ (h : Hands). runCopies b (copyList places) h .cards) (first-hand b cards l)

@@ -5,6 +5,7 @@ use mathlib.Core.Bool.{true, false}
 use mathlib.Core.List.{List, [], _∷_}
 use Prim.Native.Nat.{ℕ, _*_, _≤_}
 use native.Mathlib.Omega.{arith}
+use native.Mathlib.Nat.{zero-add}
 use lib.Dec.{eqb}
 use lib.ListN.{length}
 use borrow.Author.Tests.{eqb-true, ne-eqb, ltb-false}
@@ -16,7 +17,7 @@ use Rattle.counting.proofs.Checks.{Clear, first-append, first-past, first-here,
 use Rattle.counting.proofs.Checks.Clear.{none, more}
 use Rattle.racks.specs.Racks.{Rack, slots}
 use Rattle.racks.specs.Numbers.{badCount, badBytes, badSize, badPlaces, badCards, badEntries, badTwice, tableChecks, cardChecks, someAway}
-use Rattle.answers.specs.Answers.{copiesOf, answer, noCounts}
+use Rattle.answers.specs.Answers.{copiesOf, plusCopies, answer, noCounts}
 use Rattle.answers.specs.declared.Answer.{Answer}
 use Rattle.answers.specs.declared.Tally.{Tally}
 use Rattle.moves.specs.Moves.{Held, Outcome, outcome}
@@ -50,10 +51,10 @@ cards-good racks b places cards z =
     }
 
 -- the table and the cards that the inner shuffle leaves are those of the definition
-pub settled-held : (racks : List Rack) (b : ℕ) (places cards : List ℕ) (count : ℕ) (places′ cards′ : List ℕ) → length places ≡ slots racks → Shuffled b places cards count places′ cards′
+pub settled-held : (racks : List Rack) (b : ℕ) (places cards : List ℕ) (tally after : Tally) (places′ cards′ : List ℕ) → length places ≡ slots racks → Shuffled b places cards tally after places′ cards′
     → _≡_ {A = Held} (record { places = places′; cards = cards′ }) (settledHeld racks b (record { places = places; cards = cards }))
 unfolding settledHeld
-settled-held racks b places cards count places′ cards′ long w =
+settled-held racks b places cards tally after places′ cards′ long w =
     let p : places′ ≡ table (slots racks) (lastEntry places) = w .settled .entries ∙ ap (λ (n : ℕ). table n (lastEntry places)) long in
     let c : cards′ ≡ join (table (slots racks) (lastCard b places (brought b places cards))) = w .settled .bytes ∙ ap (λ (n : ℕ). join (table n (lastCard b places (brought b places cards)))) long in
     rw (p, c)
@@ -90,10 +91,11 @@ module _ (racks : List Rack) (b : ℕ) (places cards : List ℕ) where
     shuffled-away e = refused 12 (λ i. omega arith) (sym (past ∙ first-here _ 12 [] e))
 
     -- done
-    pub shuffled-done : someAway racks places ≡ false → length places ≡ slots racks → (a : Answer) (count : ℕ) (places′ cards′ : List ℕ)
-        → a ≡ answer 0 (copiesOf count) → Shuffled b places cards count places′ cards′ → outcomeOf a places′ cards′ ≡ shuffled racks b lent
-    shuffled-done home long a count places′ cards′ e w =
-        ap (λ (h : Held). with-held a h) (settled-held racks b places cards count places′ cards′ long w) ∙ rw (e, w .count-is) (by-number 0 (sym (past ∙ first-later _ 12 [] home ∙ first-none)))
+    pub shuffled-done : someAway racks places ≡ false → length places ≡ slots racks → (a : Answer) (start tally : Tally) (places′ cards′ : List ℕ)
+        → start ≡ noCounts → a ≡ answer 0 tally → Shuffled b places cards start tally places′ cards′ → outcomeOf a places′ cards′ ≡ shuffled racks b lent
+    shuffled-done home long a start tally places′ cards′ z e w =
+        let c : tally ≡ counts = w .count-is ∙ ap (plusCopies (length (copyList places))) z ∙ rw zero-add in
+        ap (λ (h : Held). with-held a h) (settled-held racks b places cards start tally places′ cards′ long w) ∙ rw (e, c) (by-number 0 (sym (past ∙ first-later _ 12 [] home ∙ first-none)))
       where
         with-held : Answer → Held → Outcome
         with-held a h = record { answer = a; held = h }

@@ -1,16 +1,18 @@
--- What the inner functions of the shuffle promise: the hand, copies read from a list, slots settled. Assumes nothing: these are definitions.
+-- What the inner functions of the shuffle promise: the hand, factors brought, slots settled. Assumes nothing: these are definitions.
 use mathlib.Core.Path.{_≡_}
-use mathlib.Core.Logic.{_≢_}
-use mathlib.Core.List.{List}
-use Prim.Native.Nat.{ℕ, _+_, _*_, _≤_, _<_}
+use mathlib.Core.List.{List, [], _∷_}
+use Prim.Native.Nat.{ℕ}
 use lib.Dec.{eqb}
-use lib.ListN.{length, getD, take, set}
+use lib.ListN.{length, take, set}
 use Rattle.counting.specs.Tests.{pick}
 use Rattle.counting.specs.Lists.{Pair, table, join}
-use Rattle.racks.specs.Limits.{FREE, HAND}
-use Rattle.moves.specs.Blocks.{putBlock, blank}
-use Rattle.copies.specs.Copies.{copyList}
-use Rattle.shuffle.specs.Shuffle.{Hands, taken, laid, brought, lastEntry, lastCard}
+use Rattle.racks.specs.Limits.{FREE}
+use Rattle.moves.specs.Blocks.{block, putBlock, blank}
+use Rattle.answers.specs.Answers.{plusCopies}
+use Rattle.answers.specs.declared.Tally.{Tally}
+use Rattle.copies.specs.Copies.{copies, copyList}
+use Rattle.copies.specs.Writes.{walked, walkCount, due, Counted}
+use Rattle.shuffle.specs.Shuffle.{Hands, taken, laid, runCopies, brought, lastEntry, lastCard}
 
 -- the cards, and the card in the first b bytes of the library's hand
 unfoldable pub handed : ℕ → List ℕ → List ℕ → Hands
@@ -20,28 +22,33 @@ handed b cards hand = record { cards = cards; hand = take b hand }
 unfoldable pub copyMade : ℕ → ℕ → ℕ → Hands → Hands
 copyMade b from to h = laid b to (taken b from h) h
 
--- the ends of a copy are two, each the hand or a slot within the buffer
-pub record Reached (b size from to : ℕ) : Type 0 where
-  pub differ : from ≢ to
-  pub source : from ≢ HAND → from * b + b ≤ size
-  pub target : to ≢ HAND → to * b + b ≤ size
+-- the cards after copies from slot to slot, each in turn
+unfoldable pub slid : ℕ → List Pair → List ℕ → List ℕ
+slid b [] cards = cards
+slid b (c ∷ cs) cards = slid b cs (putBlock b (c .1) (block b (c .0) cards) cards)
 
 -- the hand has its length, and the cards and the hand's card are those of h
 pub record HandedAs (b : ℕ) (cards hand : List ℕ) (h : Hands) : Type 0 where
   pub is : handed b cards hand ≡ h
   pub long : length hand ≡ 256
 
--- copy i of a list of numbers
-unfoldable pub copyAt : List ℕ → ℕ → Pair
-copyAt list i = (getD list (2 * i) 0, getD list (2 * i + 1) 0)
+-- the copies of a factor are made, as they are walked
+pub record WalkBrought (b : ℕ) (places : List ℕ) (head left end : ℕ) (cards hand : List ℕ) (count : ℕ) (cards′ hand′ : List ℕ) : Type 0 where
+  pub count-is : count ≡ walkCount left end
+  pub brings : HandedAs b cards′ hand′ (runCopies b (walked places head left end) (handed b cards hand))
+  pub size : length cards′ ≡ length cards
 
--- the first n copies of a list of numbers
-unfoldable pub copiesIn : ℕ → List ℕ → List Pair
-copiesIn n list = table n (copyAt list)
+-- the copies due at slot k are made and counted, its slots marked
+pub record SlotBrought (b : ℕ) (places : List ℕ) (k : ℕ) (seen cards hand : List ℕ) (count : ℕ) (marks cards′ hand′ : List ℕ) : Type 0 where
+  pub counted : Counted places 1 k 0 seen count marks
+  pub brings : HandedAs b cards′ hand′ (runCopies b (copies places (due places 1 seen k)) (handed b cards hand))
+  pub size : length cards′ ≡ length cards
 
--- the ends of all of them are within the buffer
-abbrev pub AllReached : ℕ → ℕ → ℕ → List ℕ → Type 0
-AllReached b size n list = (i : ℕ) → i < n → Reached b size (copyAt list i .0) (copyAt list i .1)
+-- all copies are made, and added to the tally
+pub record AllBrought (b : ℕ) (places cards hand : List ℕ) (tally after : Tally) (cards′ : List ℕ) : Type 0 where
+  pub count-is : after ≡ plusCopies (length (copyList places)) tally
+  pub brings : cards′ ≡ runCopies b (copyList places) (handed b cards hand) .cards
+  pub size : length cards′ ≡ length cards
 
 -- slot d's entry at the end, by the slot whose card is bound for it
 unfoldable pub entryBy : ℕ → ℕ → ℕ
@@ -61,7 +68,7 @@ pub record AllSettled (b : ℕ) (places cards places′ cards′ : List ℕ) : T
   pub entries : places′ ≡ table (length places) (lastEntry places)
   pub bytes : cards′ ≡ join (table (length places) (lastCard b places cards))
 
--- the shuffle of an accepted table with nothing away: copies counted, the table and the cards at the end
-pub record Shuffled (b : ℕ) (places cards : List ℕ) (count : ℕ) (places′ cards′ : List ℕ) : Type 0 where
-  pub count-is : count ≡ length (copyList places)
+-- the shuffle of an accepted table with nothing away: copies added to the tally, the table and the cards at the end
+pub record Shuffled (b : ℕ) (places cards : List ℕ) (tally after : Tally) (places′ cards′ : List ℕ) : Type 0 where
+  pub count-is : after ≡ plusCopies (length (copyList places)) tally
   pub settled : AllSettled b places (brought b places cards) places′ cards′

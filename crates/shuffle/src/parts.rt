@@ -1,31 +1,36 @@
-// What the shuffle puts together: the copies made, free slots zeroed, the new table.
+// What the shuffle puts together: the factors brought, free slots zeroed, the new table.
 ghost use mathlib.Core.Path.{_≡_};
 ghost use Prim.Native.Nat.{_+_, _*_, _≤_, _<_};
 ghost use lib.ListN.{length};
 ghost use Rattle.copies.specs.Chains.{Chained};
-ghost use Rattle.copies.specs.Writes.{Sources};
-ghost use Rattle.shuffle.specs.Shuffle.{runCopies};
-ghost use Rattle.shuffle.specs.Hands.{handed, copiesIn, AllReached, HandedAs, SlotSettled, AllSettled, Shuffled};
+ghost use Rattle.copies.specs.Writes.{Sources, Unmarked};
+ghost use Rattle.shuffle.specs.Hands.{AllBrought, SlotSettled, AllSettled, Shuffled};
+use answers::Tally;
 use racks::Job;
 
 pub mod hands;
 
-// The first `count` copies of the list, in turn.
-pub fn run_copies(
-    list: &[u16; 12288],
-    count: usize,
-    b: usize,
+// Every factor brought home, by its lowest slot; the tally with the copies made.
+pub fn bring_factors(
+    places: &[u16],
+    sources: &[u16; 4097],
+    seen: &mut [u8; 4096],
     cards: &mut [u8],
     hand: &mut [u8; 256],
-)
-    requires { ⌜ (count ≤ 6144) × AllReached b (length (now cards)) count (now list) × (b ≤ 256) × (length (now hand) ≡ 256) ⌝ }
-    ensures { λ _. ⌜ HandedAs b (now (cards .exit)) (now (hand .exit)) (runCopies b (copiesIn count (now (list .entry))) (handed b (now (cards .entry)) (now (hand .entry)))) ⌝ }
+    b: usize,
+    tally: Tally,
+) -> Tally
+    requires { ⌜ Chained (now places) × Sources (now places) (now sources) × Unmarked 1 (now seen) × (b ≤ 256) × (length (now cards) ≡ length (now places) * b) × (length (now hand) ≡ 256) × (tally .copies ≡ 0) ⌝ }
+    ensures { λ r. ⌜ AllBrought b (now (places .entry)) (now (cards .entry)) (now (hand .entry)) tally r (now (cards .exit)) ⌝ }
 {
-    let mut i: usize = 0;
-    while i < count {
-        hands::make_copy(cards, hand, b, list[2 * i], list[2 * i + 1]);
-        i = i + 1;
+    let mut sum = tally;
+    let mut k: usize = 0;
+    while k < places.len() {
+        let count = hands::bring_slot(places, sources, seen, cards, hand, b, k);
+        sum = copies::parts::add_copies(sum, count);
+        k = k + 1;
     }
+    sum
 }
 
 // Slot d at the end: it names itself where a card was bound for it, else it is free and zeroed.
@@ -42,7 +47,7 @@ pub fn settle_slot(places: &mut [u16], cards: &mut [u8], b: usize, d: usize, sou
 }
 
 // The new table, and every free slot zeroed, in one pass.
-pub fn settle_slots(sources: &[u16; 4096], places: &mut [u16], cards: &mut [u8], b: usize)
+pub fn settle_slots(sources: &[u16; 4097], places: &mut [u16], cards: &mut [u8], b: usize)
     requires { ⌜ Chained (now places) × Sources (now places) (now sources) × (length (now cards) ≡ length (now places) * b) ⌝ }
     ensures { λ _. ⌜ AllSettled b (now (places .entry)) (now (cards .entry)) (now (places .exit)) (now (cards .exit)) ⌝ }
 {
@@ -53,16 +58,16 @@ pub fn settle_slots(sources: &[u16; 4096], places: &mut [u16], cards: &mut [u8],
     }
 }
 
-// The shuffle of an accepted table with nothing away; how many copies were made.
-pub fn settle(b: usize, places: &mut [u16], cards: &mut [u8]) -> usize
-    requires { ⌜ Chained (now places) × (b ≤ 256) × (length (now cards) ≡ length (now places) * b) ⌝ }
-    ensures { λ r. ⌜ Shuffled b (now (places .entry)) (now (cards .entry)) r (now (places .exit)) (now (cards .exit)) ⌝ }
+// The shuffle of an accepted table with nothing away; the tally with the copies made.
+pub fn settle(b: usize, places: &mut [u16], cards: &mut [u8], tally: Tally) -> Tally
+    requires { ⌜ Chained (now places) × (b ≤ 256) × (length (now cards) ≡ length (now places) * b) × (tally .copies ≡ 0) ⌝ }
+    ensures { λ r. ⌜ Shuffled b (now (places .entry)) (now (cards .entry)) tally r (now (places .exit)) (now (cards .exit)) ⌝ }
 {
-    let mut sources = [0u16; 4096];
-    let mut list = [0u16; 12288];
-    let count = copies::parts::list_copies(places, &mut sources, &mut list);
+    let mut sources = [Job::FREE; 4097];
+    copies::parts::walks::fill_sources(places, &mut sources);
+    let mut seen = [0u8; 4096];
     let mut hand = [0u8; 256];
-    run_copies(&list, count, b, cards, &mut hand);
+    let counted = bring_factors(places, &sources, &mut seen, cards, &mut hand, b, tally);
     settle_slots(&sources, places, cards, b);
-    count
+    counted
 }

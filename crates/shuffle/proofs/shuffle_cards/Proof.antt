@@ -1,16 +1,16 @@
-use Rattle.shuffle.proofs.Shuffles.{CardsGood, cards-good, shuffled-cards, shuffled-away, shuffled-done}
-use Rattle.moves.specs.Parts.{outcomeOf}
-use Rattle.copies.proofs.Accepted.{accepted, away-known}
-use Rattle.copies.specs.Chains.{Chained}
-use Rattle.tables.proofs.Tables.{of-sound, of-cards}
-use Rattle.racks.proofs.Legal.{legal-long}
-use Rattle.answers.specs.Answers.{answer}
-use Rattle.racks.specs.Numbers.{cardChecks, someAway}
-use Rattle.racks.specs.Racks.{ofCaps, slots}
-use Rattle.counting.specs.Checks.{first}
-use lib.ListN.{length}
-use Prim.Native.Nat.{ℕ, _*_}
+use Rattle.answers.specs.declared.Tally.{Tally}
 use mathlib.Core.Path.{_≡_, sym, ap, _∙_}
+use Prim.Native.Nat.{ℕ, _*_}
+use lib.ListN.{length}
+use Rattle.counting.specs.Checks.{first}
+use Rattle.racks.specs.Racks.{ofCaps, slots}
+use Rattle.racks.specs.Numbers.{cardChecks, someAway}
+use Rattle.racks.proofs.Legal.{legal-long}
+use Rattle.tables.proofs.Tables.{of-sound, of-cards}
+use Rattle.copies.specs.Chains.{Chained}
+use Rattle.copies.proofs.Accepted.{accepted, away-known}
+use Rattle.moves.specs.Parts.{outcomeOf}
+use Rattle.shuffle.proofs.Shuffles.{CardsGood, cards-good, shuffled-cards, shuffled-away, shuffled-done}
 use borrow.Author.Needs.{needs}
 use Rattle.shuffle.proofs.shuffle_cards.Statement.{statement}
 use Rattle.shuffle.proofs.shuffle_cards.Tie as tie
@@ -81,14 +81,14 @@ returns-2 c =
     let s = c .before .before .before .before .before .before .before .before .before .before .before .before .before .before in
     ap (λ a. outcomeOf a (s .args .places .now) (s .args .cards .now)) (c .of3 .ensures) ∙ shuffled-away (ofCaps (s .args .caps .now)) (s .args .b) (s .args .places .now) (s .args .cards .now) (clear (c .before .before .before .before .before)) (sym (away (c .before .before)) ∙ c .before .if2 .taken)
 
+none-requires : tie.Need-none-requires
+none-requires c κs = search needs
+
 settle-requires : tie.Need-settle-requires
 settle-requires c κs =
-    let e = c .before .before .before .before .before .before in
-    let s = c .before .before .before .before .before .before .before .before .before .before .before .before .before .before .before in
-    (chains e, good e .bytes-few, good e .cards-long ∙ ap (λ (n : ℕ). n * s .args .b) (sym (long e)))
-
-of-copies-requires : tie.Need-of-copies-requires
-of-copies-requires c κs = search needs
+    let e = c .before .before .before .before .before .before .before in
+    let s = c .before .before .before .before .before .before .before .before .before .before .before .before .before .before .before .before in
+    (chains e, good e .bytes-few, good e .cards-long ∙ ap (λ (n : ℕ). n * s .args .b) (sym (long e)), ap (λ (t : Tally). t .copies) (c .before .before .none .ensures))
 
 done-requires : tie.Need-done-requires
 done-requires c κs = search needs
@@ -103,7 +103,8 @@ returns-3 : tie.Need-returns-3
 returns-3 c =
     let e = c .before .before .before .before .before .before .before .before .before .before .before .before .before in
     let s = c .before .before .before .before .before .before .before .before .before .before .before .before .before .before .before .before .before .before .before .before .before .before in
-    shuffled-done (ofCaps (s .args .caps .now)) (s .args .b) (s .args .places .now) (s .args .cards .now) (clear e) (sym (away (c .before .before .before .before .before .before .before .before .before .before)) ∙ c .before .before .before .before .before .before .before .before .before .if2 .left) (long e) _ _ _ _ (c .done .ensures ∙ ap (answer 0) (c .before .of-copies .ensures)) (c .before .before .before .before .before .before .settle .ensures)
+    let home = sym (away (c .before .before .before .before .before .before .before .before .before .before)) ∙ c .before .before .before .before .before .before .before .before .before .if2 .left in
+    shuffled-done (ofCaps (s .args .caps .now)) (s .args .b) (s .args .places .now) (s .args .cards .now) (clear e) home (long e) _ _ _ _ _ (c .before .before .before .before .before .before .before .before .none .ensures) (c .done .ensures) (c .before .before .before .before .before .settle .ensures)
 
 pub shuffle-cards-spec : {M : Type 1} → statement M
 shuffle-cards-spec =
@@ -120,8 +121,8 @@ shuffle-cards-spec =
     same-length-3
     same-length-4
     returns-2
+    none-requires
     settle-requires
-    of-copies-requires
     done-requires
     same-length-5
     same-length-6

@@ -1,9 +1,14 @@
-// Copies to the hand and from it.
+// Cards brought to the slots they are bound for: along a chain, and by the hand round a cycle.
 ghost use mathlib.Core.Path.{_≡_};
-ghost use Prim.Native.Nat.{_+_, _*_, _≤_};
+ghost use mathlib.Core.Logic.{_≢_};
+ghost use Prim.Native.Nat.{_+_, _*_, _≤_, _<_};
 ghost use lib.ListN.{length, take};
+ghost use Rattle.racks.specs.Limits.{FREE};
 ghost use Rattle.moves.specs.Blocks.{block, putBlock};
-ghost use Rattle.shuffle.specs.Hands.{handed, copyMade, Reached, HandedAs};
+ghost use Rattle.copies.specs.Copies.{next, shift, copies};
+ghost use Rattle.copies.specs.Chains.{Chained};
+ghost use Rattle.copies.specs.Writes.{Sources, steps, Inside, walkCount, due};
+ghost use Rattle.shuffle.specs.Hands.{slid, WalkBrought, SlotBrought};
 use racks::Job;
 
 // The card in slot `from` goes to the hand.
@@ -33,20 +38,60 @@ pub fn lay_card(cards: &mut [u8], hand: &[u8; 256], b: usize, to: usize)
     }
 }
 
-// One copy of the list: the hand is shown as 65,534.
-pub fn make_copy(cards: &mut [u8], hand: &mut [u8; 256], b: usize, from: u16, to: u16)
-    requires { ⌜ Reached b (length (now cards)) from to × (b ≤ 256) × (length (now hand) ≡ 256) ⌝ }
-    ensures { λ _. ⌜ HandedAs b (now (cards .exit)) (now (hand .exit)) (copyMade b from to (handed b (now (cards .entry)) (now (hand .entry)))) ⌝ }
+// The cards of the chain of slot x and the `left` slots after it, each to the next slot, the last card first; how many copies were made. The
+// table is lent as a reference to a slice, which is one register for each level of the recursion.
+pub fn bring(places: &&[u16], cards: &mut [u8], b: usize, x: usize, left: usize) -> usize
+    requires { ⌜ Inside (now (now places)) left x × (length (now (now places)) ≤ 4096) × (b ≤ 256) × (length (now cards) ≡ length (now (now places)) * b) × (left ≤ 6144) ⌝ }
+    ensures count { λ r. ⌜ r ≡ left ⌝ }
+    ensures cards { λ _. ⌜ now (cards .exit) ≡ slid b (shift x (steps (next (now (now (places .entry)))) left x)) (now (cards .entry)) ⌝ }
 {
-    let f = copies::parts::wide(from);
-    let t = copies::parts::wide(to);
-    if from == Job::HAND {
-        lay_card(cards, hand, b, t);
-        return;
+    if left == 0 {
+        return 0;
     }
-    if to == Job::HAND {
-        take_card(cards, hand, b, f);
-        return;
+    let to = copies::parts::wide(places[x]);
+    let made = bring(places, cards, b, to, left - 1);
+    moves::parts::copy_card(cards, b, x, to);
+    made + 1
+}
+
+// The cards of a factor: along a shift, or by the hand; how many copies were made.
+pub fn bring_walk(
+    places: &[u16],
+    cards: &mut [u8],
+    hand: &mut [u8; 256],
+    b: usize,
+    head: usize,
+    left: usize,
+    end: u16,
+) -> usize
+    requires { ⌜ Inside (now places) left head × (length (now places) ≤ 4096) × (end ≢ FREE → end < length (now places)) × (walkCount left end ≤ 6144) × (b ≤ 256) × (length (now cards) ≡ length (now places) * b) × (length (now hand) ≡ 256) ⌝ }
+    ensures { λ r. ⌜ WalkBrought b (now (places .entry)) head left end (now (cards .entry)) (now (hand .entry)) r (now (cards .exit)) (now (hand .exit)) ⌝ }
+{
+    if end == Job::FREE {
+        return bring(&places, cards, b, head, left);
     }
-    moves::parts::copy_card(cards, b, f, t);
+    take_card(cards, hand, b, copies::parts::wide(end));
+    let made = bring(&places, cards, b, head, left);
+    lay_card(cards, hand, b, head);
+    made + 2
+}
+
+// The cards of the factor of slot k, unless it is marked; how many copies were made.
+pub fn bring_slot(
+    places: &[u16],
+    sources: &[u16; 4097],
+    seen: &mut [u8; 4096],
+    cards: &mut [u8],
+    hand: &mut [u8; 256],
+    b: usize,
+    k: usize,
+) -> usize
+    requires { ⌜ Chained (now places) × Sources (now places) (now sources) × (k < length (now places)) × (length (now seen) ≡ 4096) × (length (copies (now places) (due (now places) 1 (now seen) k)) ≤ 6144) × (b ≤ 256) × (length (now cards) ≡ length (now places) * b) × (length (now hand) ≡ 256) ⌝ }
+    ensures { λ r. ⌜ SlotBrought b (now (places .entry)) k (now (seen .entry)) (now (cards .entry)) (now (hand .entry)) r (now (seen .exit)) (now (cards .exit)) (now (hand .exit)) ⌝ }
+{
+    if seen[k] == 1 {
+        return 0;
+    }
+    let w = copies::parts::walks::walk_factor(places, sources, seen, 1, k);
+    bring_walk(places, cards, hand, b, w.head, w.left, w.end)
 }

@@ -1,20 +1,23 @@
-use Rattle.shuffle.proofs.Copying.{count-few, all-reached, read-back, run-brought}
-use mathlib.Core.Path.{refl}
+use Rattle.shuffle.proofs.Copying.{all-brought}
+use Rattle.copies.proofs.Progress.{unmarked-first}
+use mathlib.Core.Path.{refl, _∙_}
+use native.Mathlib.Omega.{arith}
 use borrow.Author.Needs.{needs}
 use Rattle.shuffle.proofs.parts.settle.Statement.{statement}
 use Rattle.shuffle.proofs.parts.settle.Tie as tie
 
-list-copies-requires : tie.Need-list-copies-requires
-list-copies-requires c κs = search needs
+fill-sources-requires : tie.Need-fill-sources-requires
+fill-sources-requires c κs = search needs
 
-run-copies-requires : tie.Need-run-copies-requires
-run-copies-requires c κs =
-    let s = c .before .before .before .before .before .before .before .before .before in
-    let w = c .before .before .before .list-copies .ensures .0 in
-    (count-few (s .pre .0) w refl, all-reached (s .pre .0) w refl (s .args .b) (s .args .cards .now) (s .pre .2), s .pre .1, refl)
+bring-factors-requires : tie.Need-bring-factors-requires
+bring-factors-requires c κs =
+    let s = c .before .before .before .before .before .before .before .before .before .before in
+    (s .pre .0, c .before .before .before .before .before .fill-sources .ensures, unmarked-first 1 (λ e. omega arith) _ refl, s .pre .1, s .pre .2, refl, s .pre .3)
 
 settle-slots-requires : tie.Need-settle-slots-requires
-settle-slots-requires c κs = search needs
+settle-slots-requires c κs =
+    let s = c .before .before .before .before .before .before .before .before .before .before .before .before .before .before .before .before in
+    (s .pre .0, c .before .before .before .before .before .before .before .before .before .before .before .fill-sources .ensures, c .before .before .before .before .before .bring-factors .ensures .size ∙ s .pre .2)
 
 same-length : tie.Need-same-length
 same-length c = search needs
@@ -24,19 +27,19 @@ same-length-2 c = search needs
 
 returns : tie.Need-returns
 returns c =
-    let s = c .before .before .before .before .before .before .before .before .before .before .before .before .before .before .before .before .before .before .before .before in
-    let w = c .before .before .before .before .before .before .before .before .before .before .before .before .before .before .list-copies .ensures .0 in
+    let s = c .before .before .before .before .before .before .before .before .before .before .before .before .before .before .before .before .before .before .before .before .before in
+    let w = c .before .before .before .before .before .before .before .before .before .before .bring-factors .ensures in
     record {
       count-is = w .count-is;
-      settled = rw (run-brought (s .args .b) _ (s .args .places .now) _ (s .args .cards .now) _ _ (s .pre .1) (read-back (s .pre .0) w refl) (c .before .before .before .before .before .before .before .before .before .before .run-copies .ensures)) at (c .before .before .before .before .settle-slots .ensures);
+      settled = rw (all-brought (s .args .b) (s .args .places .now) (s .args .cards .now) _ (s .args .tally) _ (s .pre .1) w) at (c .before .before .before .before .settle-slots .ensures);
     }
 
 pub settle-spec : {M : Type 1} → statement M
 settle-spec =
     tie.close
     (tie.spec
-    list-copies-requires
-    run-copies-requires
+    fill-sources-requires
+    bring-factors-requires
     settle-slots-requires
     same-length
     same-length-2
