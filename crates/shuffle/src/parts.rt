@@ -2,9 +2,13 @@
 ghost use mathlib.Core.Path.{_≡_};
 ghost use Prim.Native.Nat.{_+_, _*_, _≤_, _<_};
 ghost use lib.ListN.{length};
+ghost use Rattle.racks.specs.Job.{Fit};
+ghost use Rattle.moves.specs.Parts.{held, outcomeOf};
 ghost use Rattle.copies.specs.Chains.{Chained};
 ghost use Rattle.copies.specs.Writes.{Sources, Unmarked};
 ghost use Rattle.shuffle.specs.Hands.{AllBrought, SlotSettled, AllSettled, Shuffled};
+ghost use Rattle.shuffle.specs.Shuffled.{shuffledBy};
+use answers::Answer;
 use answers::Tally;
 use racks::Job;
 
@@ -70,4 +74,22 @@ pub fn settle(b: usize, places: &mut [u16], cards: &mut [u8], tally: Tally) -> T
     let counted = bring_factors(places, &sources, &mut seen, cards, &mut hand, b, tally);
     settle_slots(&sources, places, cards, b);
     counted
+}
+
+// The shuffle, by the job.
+pub fn shuffle_job(job: Job, b: usize, places: &mut [u16], cards: &mut [u8]) -> Answer
+    requires { ⌜ Fit job ⌝ }
+    ensures { λ r. ⌜ outcomeOf r (now (places .exit)) (now (cards .exit)) ≡ shuffledBy job b (held (now (places .entry)) (now (cards .entry))) ⌝ }
+{
+    let mut racking = [0u8; Job::MAX_SLOTS];
+    let number = tables::parts::cards_number(job, b, places, cards, &mut racking);
+    if number != 0 {
+        return Answer::of(number);
+    }
+    if copies::parts::some_away(&racking, places) {
+        return Answer::of(12);
+    }
+    let none = Tally::none();
+    let tally = settle(b, places, cards, none);
+    Answer::done(tally)
 }
