@@ -1,12 +1,13 @@
 -- Each case of the copy list's call. Assumes nothing.
 use mathlib.Core.Path.{_≡_, sym, ap, _∙_}
-use mathlib.Core.Bool.{true, false}
+use mathlib.Core.Bool.{true, false, not}
 use mathlib.Core.List.{List, [], _∷_}
 use Prim.Native.Nat.{ℕ, _*_, _≤_, _<_}
 use native.Mathlib.Omega.{arith}
 use native.Mathlib.Nat.{zero-add}
 use lib.ListN.{length}
-use borrow.Author.Tests.{lt-ltb, le-ltb}
+use borrow.Author.Tests.{lt-ltb, le-ltb, ltb-false}
+use Rattle.counting.proofs.Tests.{not-on, not-off-is}
 use Rattle.counting.specs.Lists.{flat}
 use Rattle.counting.specs.Checks.{first}
 use Rattle.counting.proofs.Checks.{first-here, first-later, first-none, refusal-here, refusal-past}
@@ -22,23 +23,46 @@ use Rattle.racks.specs.declared.Job.{Job}
 use Rattle.tables.specs.Tables.{tableNumber}
 use Rattle.tables.proofs.Tables.{listed-by}
 use Rattle.copies.specs.Copies.{copyList, copyChecks, copied}
-use Rattle.copies.specs.Writes.{putCopies, AllWritten, listedHere, copyNumber, copiedBy}
+use Rattle.copies.specs.Writes.{putCopies, AllWritten, fits, listedHere, copyNumber, copiedBy}
+use Rattle.copies.specs.Chains.{Chained}
+use Rattle.copies.proofs.Costs.{list-most}
 
--- the table is accepted and nothing is away: the copies are counted
-module _ (places lent : List ℕ) (count : ℕ) (size : count ≡ length (copyList places)) where
+-- three numbers a slot are enough
+pub fits-long : {places : List ℕ} → Chained places → (room : ℕ) → 3 * length places ≤ room → true ≡ fits room places
+unfolding fits
+fits-long {places} ok room l = ap not (sym (le-ltb room (2 * length (copyList places)) (omega (arith, list-most ok))))
+
+-- the copies, counted: they fit, or not
+module _ (places : List ℕ) (room count : ℕ) (size : count ≡ length (copyList places)) where
+  pub fits-not : room < 2 * count → false ≡ fits room places
+  unfolding fits
+  fits-not l = ap not (sym (lt-ltb room (2 * length (copyList places)) (omega arith)))
+
+  pub fits-just : 2 * count ≤ room → true ≡ fits room places
+  unfolding fits
+  fits-just l = ap not (sym (le-ltb room (2 * length (copyList places)) (omega arith)))
+
+-- the table is accepted and nothing is away
+module _ (places lent : List ℕ) where
   -- the lent list is too short
-  pub here-short : length lent < 2 * count → (a : Answer) → a ≡ answer 13 noCounts → listedOf a lent ≡ listedHere places lent
-  unfolding listedHere tooShort
-  here-short l a ea =
-      listed-refused (first ((tooShort lent (flat (copyList places)), 13) ∷ [])) (copiesOf (length (copyList places))) (flat (copyList places)) lent 13 a ea (sym (first-here _ 13 [] (lt-ltb (length lent) (length (flat (copyList places))) (omega (arith, length-flat (copyList places)))))) (λ z. omega arith)
+  pub here-short : fits (length lent) places ≡ false → (a : Answer) → a ≡ answer 13 noCounts → listedOf a lent ≡ listedHere places lent
+  unfolding listedHere fits tooShort
+  here-short e a ea =
+      listed-refused (first ((tooShort lent (flat (copyList places)), 13) ∷ [])) (copiesOf (length (copyList places))) (flat (copyList places)) lent 13 a ea
+      (sym (first-here _ 13 [] (rw (length-flat (copyList places)) (not-off-is e)))) (λ z. omega arith)
 
-  -- it has room: the list is written, and the tally has its copies
-  pub here-done : 2 * count ≤ length lent → (a : Answer) (t : Tally) (n : ℕ) (after : List ℕ) → a ≡ answer 0 t → t ≡ plusCopies n noCounts → AllWritten places lent n after → listedOf a after ≡ listedHere places lent
-  unfolding listedHere tooShort putCopies
-  here-done l a t n after ea et w =
+  -- it has room
+  pub fits-room : fits (length lent) places ≡ true → 2 * length (copyList places) ≤ length lent
+  unfolding fits
+  fits-room e = ltb-false (length lent) (2 * length (copyList places)) (not-on e)
+
+  -- the list is written, and the tally has its copies
+  pub here-done : fits (length lent) places ≡ true → (a : Answer) (t : Tally) (n : ℕ) (after : List ℕ) → a ≡ answer 0 t → t ≡ plusCopies n noCounts → AllWritten places lent n after → listedOf a after ≡ listedHere places lent
+  unfolding listedHere fits tooShort putCopies
+  here-done e a t n after ea et w =
       let z : n ≡ length (copyList places) = w .count-is in
       listed-done (first ((tooShort lent (flat (copyList places)), 13) ∷ [])) (copiesOf (length (copyList places))) (flat (copyList places)) lent a t after ea (et ∙ rw (z, zero-add)) (w .list-is)
-      (first-later _ 13 [] (le-ltb (length lent) (length (flat (copyList places))) (omega (arith, length-flat (copyList places)))) ∙ first-none)
+      (first-later _ 13 [] (rw (length-flat (copyList places)) (not-on e)) ∙ first-none)
 
 -- the number of the call, by a job
 module _ (job : Job) (places lent : List ℕ) where

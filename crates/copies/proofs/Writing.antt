@@ -56,6 +56,10 @@ module _ (list : List ℕ) (at : ℕ) where
   unfolding putCopies flat
   put-one from to = rw add-one
 
+-- so what is written is as long as what was there
+pub put-long : (list after : List ℕ) (at : ℕ) (cs : List Pair) → after ≡ putCopies list at cs → length after ≡ length list
+put-long list after at cs e = ap length e ∙ length-put-copies list at cs
+
 -- n slots follow
 pub length-steps : (f : ℕ → ℕ) (n x : ℕ) → length (steps f n x) ≡ n
 unfolding steps

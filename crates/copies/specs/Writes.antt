@@ -1,10 +1,10 @@
 -- What the inner functions of the copy list promise: the sources in a table, marks, copies written into a list. Assumes nothing: these are definitions.
 use mathlib.Core.Path.{_≡_}
 use mathlib.Core.Logic.{_≢_}
-use mathlib.Core.Bool.{Bool}
+use mathlib.Core.Bool.{Bool, not}
 use mathlib.Core.List.{List, [], _∷_, _++_}
 use Prim.Native.Nat.{ℕ, zero, suc, _+_, _*_, _<_}
-use lib.Dec.{eqb}
+use lib.Dec.{eqb, ltb}
 use lib.ListN.{length, getD, set, replicate}
 use lib.Seq.{sets}
 use Rattle.counting.specs.Tests.{pick}
@@ -97,6 +97,10 @@ pub record Written (places : List ℕ) (mark k at : ℕ) (list seen : List ℕ) 
 pub record AllWritten (places list : List ℕ) (count : ℕ) (after : List ℕ) : Type 0 where
   pub count-is : count ≡ length (copyList places)
   pub list-is : after ≡ putCopies list 0 (copyList places)
+
+-- a list of so many numbers has room for the copies
+unfoldable pub fits : ℕ → List ℕ → Bool
+fits room places = not (ltb room (2 * length (copyList places)))
 
 -- the outcome where the table is accepted and nothing is away: 13, or the list and its copies
 unfoldable pub listedHere : List ℕ → List ℕ → Listed

@@ -85,7 +85,7 @@ pub fn list_copies(places: &[u16], list: &mut [u16], tally: Tally) -> Tally
     add_copies(tally, count)
 }
 
-// The copies of an accepted table with nothing away: counted, and where the lent list has room for them, listed in it.
+// The copies of an accepted table with nothing away: where the lent list has room for them, they are listed in it.
 pub fn list_counted(places: &[u16], lent: &mut [u16]) -> Answer
     requires { ⌜ Chained (now places) ⌝ }
     ensures { λ r. ⌜ listedOf r (now (lent .exit)) ≡ listedHere (now (places .entry)) (now (lent .entry)) ⌝ }
@@ -93,14 +93,13 @@ pub fn list_counted(places: &[u16], lent: &mut [u16]) -> Answer
     let mut sources = [Job::FREE; 4097];
     walks::fill_sources(places, &mut sources);
     let mut seen = [0u8; 4096];
-    let count = lists::count_factors(places, &sources, &mut seen);
-    if lent.len() < 2 * count {
-        return Answer::of(13);
+    if lists::has_room(places, &sources, &mut seen, lent.len()) {
+        let written = lists::write_factors(places, &sources, &mut seen, lent);
+        let none = Tally::none();
+        let tally = add_copies(none, written);
+        return Answer::done(tally);
     }
-    let written = lists::write_factors(places, &sources, &mut seen, lent);
-    let tally = Tally::none();
-    let counted = add_copies(tally, written);
-    Answer::done(counted)
+    Answer::of(13)
 }
 
 // The copy list, by the job.

@@ -5,7 +5,7 @@ ghost use Prim.Native.Nat.{_+_, _*_, _≤_, _<_};
 ghost use lib.ListN.{length, replicate};
 ghost use Rattle.copies.specs.Copies.{next, shift, copies, copyList};
 ghost use Rattle.copies.specs.Chains.{Chained};
-ghost use Rattle.copies.specs.Writes.{Sources, putCopies, steps, Inside, walked, walkCount, Unmarked, due, Counted, Written, AllWritten};
+ghost use Rattle.copies.specs.Writes.{Sources, putCopies, steps, Inside, walked, walkCount, Unmarked, due, Counted, Written, AllWritten, fits};
 use crate::parts;
 use crate::parts::walks;
 use racks::Job;
@@ -53,6 +53,23 @@ pub fn count_factors(places: &[u16], sources: &[u16; 4097], seen: &mut [u8; 4096
         k = k + 1;
     }
     at
+}
+
+// Whether a list of so many numbers has room for the copies. No more than three numbers a slot are ever written: for a list as long as that
+// nothing has to be counted.
+pub fn has_room(places: &[u16], sources: &[u16; 4097], seen: &mut [u8; 4096], room: usize) -> bool
+    requires { ⌜ Chained (now places) × Sources (now places) (now sources) × (now seen ≡ replicate 4096 0) ⌝ }
+    ensures room { λ r. ⌜ r ≡ fits room (now (places .entry)) ⌝ }
+    ensures marks { λ _. ⌜ Unmarked 2 (now (seen .exit)) ⌝ }
+{
+    if 3 * places.len() <= room {
+        return true;
+    }
+    let count = count_factors(places, sources, seen);
+    if room < 2 * count {
+        return false;
+    }
+    true
 }
 
 // Copy number `at` of the list: from, and then to.

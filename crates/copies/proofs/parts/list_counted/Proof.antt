@@ -1,8 +1,8 @@
-use Rattle.copies.proofs.Copied.{here-short, here-done}
+use Rattle.copies.proofs.Copied.{fits-room, here-short, here-done}
 use Rattle.copies.proofs.Progress.{few-copies}
 use Rattle.answers.specs.declared.Tally.{Tally}
 use Rattle.answers.specs.Answers.{plusCopies}
-use mathlib.Core.Path.{ap, _∙_}
+use mathlib.Core.Path.{sym, ap, _∙_}
 use native.Mathlib.Omega.{arith}
 use borrow.Author.Needs.{needs}
 use Rattle.copies.proofs.parts.list_counted.Statement.{statement}
@@ -11,22 +11,14 @@ use Rattle.copies.proofs.parts.list_counted.Tie as tie
 fill-sources-requires : tie.Need-fill-sources-requires
 fill-sources-requires c κs = search needs
 
-count-factors-requires : tie.Need-count-factors-requires
-count-factors-requires c κs = search needs
-
-mul-if1 : tie.Need-mul-if1
-mul-if1 c = omega (arith, c .count-factors .ensures .0, few-copies (c .before .before .before .before .before .before .before .pre))
-
-of-requires : tie.Need-of-requires
-of-requires c κs = search needs
-
-returns : tie.Need-returns
-returns c =
-    let s = c .before .before .before .before .before .before .before .before .before in
-    here-short (s .args .places .now) (s .args .lent .now) _ (c .before .before .count-factors .ensures .0) (c .before .if1 .taken) _ (c .of .ensures)
+has-room-requires : tie.Need-has-room-requires
+has-room-requires c κs = search needs
 
 write-factors-requires : tie.Need-write-factors-requires
-write-factors-requires c κs = search needs
+write-factors-requires c κs =
+    let s = c .before .before .before .before .before .before .before .before .before .before .before in
+    let r = c .before .before .before .before .has-room in
+    (s .pre, c .before .before .before .before .before .before .before .fill-sources .ensures, r .ensures .1, fits-room (s .args .places .now) (s .args .lent .now) (sym (r .ensures .0) ∙ c .before .before .before .if1 .taken))
 
 none-requires : tie.Need-none-requires
 none-requires c κs = search needs
@@ -42,24 +34,31 @@ done-requires c κs = search needs
 same-length : tie.Need-same-length
 same-length c = search needs
 
-returns-2 : tie.Need-returns-2
-returns-2 c =
+returns : tie.Need-returns
+returns c =
     let s = c .before .before .before .before .before .before .before .before .before .before .before .before .before .before .before .before .before in
     let a = c .before .add-copies .ensures ∙ ap (plusCopies _) (c .before .before .none .ensures) in
-    here-done (s .args .places .now) (s .args .lent .now) _ (c .before .before .before .before .before .before .before .before .before .before .count-factors .ensures .0) (c .before .before .before .before .before .before .before .before .before .if1 .left) _ _ _ _ (c .done .ensures) a (c .before .before .before .before .before .write-factors .ensures)
+    here-done (s .args .places .now) (s .args .lent .now) (sym (c .before .before .before .before .before .before .before .before .before .before .has-room .ensures .0) ∙ c .before .before .before .before .before .before .before .before .before .if1 .taken) _ _ _ _ (c .done .ensures) a (c .before .before .before .before .before .write-factors .ensures)
+
+of-requires : tie.Need-of-requires
+of-requires c κs = search needs
+
+returns-2 : tie.Need-returns-2
+returns-2 c =
+    let s = c .before .before .before .before .before .before .before .before .before in
+    here-short (s .args .places .now) (s .args .lent .now) (sym (c .before .before .has-room .ensures .0) ∙ c .before .if1 .left) _ (c .of .ensures)
 
 pub list-counted-spec : {M : Type 1} → statement M
 list-counted-spec =
     tie.close
     (tie.spec
     fill-sources-requires
-    count-factors-requires
-    mul-if1
-    of-requires
-    returns
+    has-room-requires
     write-factors-requires
     none-requires
     add-copies-requires
     done-requires
     same-length
+    returns
+    of-requires
     returns-2)

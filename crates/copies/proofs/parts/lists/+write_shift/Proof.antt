@@ -1,8 +1,7 @@
 use borrow.Author.Needs.{needs}
-use lib.ListN.{length}
-use mathlib.Core.Path.{sym, ap, _∙_}
+use mathlib.Core.Path.{sym, _∙_}
 use Rattle.copies.proofs.Chains.{next-is}
-use Rattle.copies.proofs.Writing.{inside-here, inside-next, shift-none, shift-more, length-put-copies}
+use Rattle.copies.proofs.Writing.{inside-here, inside-next, shift-none, shift-more, put-long}
 use native.Mathlib.Omega.{arith}
 use Prim.Native.Nat.{ℕ, _<_}
 use borrow.Fn.Kinds.{In}
@@ -110,7 +109,7 @@ write-shift-put-copy-requires : (t : ℕ) → write-shift-lts.Need-put-copy-requ
 write-shift-put-copy-requires t c κs =
     let s = c .before .before .before .before .before .before .before .before .before in
     let w = c .before .before .before .write-shift in
-    (omega (arith, w .ensures .0), omega (arith, w .ensures .0, ap length (w .ensures .1) ∙ length-put-copies _ _ _, s .pre .1 .3))
+    (omega (arith, w .ensures .0), omega (arith, w .ensures .0, put-long _ _ _ _ (w .ensures .1), s .pre .1 .3))
 
 write-shift-add-result : (t : ℕ) → write-shift-lts.Need-add-result (
   wide-reads.Asked,
@@ -132,7 +131,7 @@ write-shift-same-length : (t : ℕ) → write-shift-lts.Need-same-length (
 ) (write-shift-at t) write-shift.Post
 write-shift-same-length t c =
     let w = c .before .before .before .before .before .before .write-shift in
-    ap length (c .before .before .put-copy .ensures) ∙ length-put-copies _ _ _ ∙ ap length (w .ensures .1) ∙ length-put-copies _ _ _
+    put-long _ _ _ _ (c .before .before .put-copy .ensures) ∙ put-long _ _ _ _ (w .ensures .1)
 
 write-shift-returns-2 : (t : ℕ) → write-shift-lts.Need-returns-2 (
   wide-reads.Asked,

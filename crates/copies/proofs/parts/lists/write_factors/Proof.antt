@@ -1,6 +1,6 @@
 use Rattle.copies.proofs.Progress.{Listing, listing-start, counting-room, listing-more, listing-end, few-copies}
-use Rattle.copies.proofs.Writing.{length-put-copies}
-use mathlib.Core.Path.{_≡_, refl, ap, _∙_}
+use Rattle.copies.proofs.Writing.{put-long}
+use mathlib.Core.Path.{_≡_, refl, _∙_}
 use lib.ListN.{length}
 use Prim.Native.Nat.{_≤_, _-_}
 use native.Mathlib.Omega.{arith}
@@ -40,7 +40,7 @@ loop-again c =
     let s = c .before .before .before .before .before .before .before .before .before in
     let l = c .before .before .before .before .before .before .loop in
     let w = c .before .before .write-slot .ensures in
-    (omega arith, ap length (w .list-is) ∙ length-put-copies _ _ _ ∙ l .inv .1, listing-more _ _ (l .k) _ _ _ _ _ (l .inv .2) (s .pre .2) (omega arith) _ _ _ w)
+    (omega arith, put-long _ _ _ _ (w .list-is) ∙ l .inv .1, listing-more _ _ (l .k) _ _ _ _ _ (l .inv .2) (s .pre .2) (omega arith) _ _ _ w)
 
 same-length : tie.Need-same-length Inv-loop μ-loop
 same-length c = c .before .loop .inv .1

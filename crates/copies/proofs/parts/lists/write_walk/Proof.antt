@@ -1,6 +1,5 @@
-use Rattle.copies.proofs.Writing.{count-shift, count-hand, wrote-shift, wrote-hand, inside-here, length-put-copies}
-use lib.ListN.{length}
-use mathlib.Core.Path.{refl, ap, _∙_}
+use Rattle.copies.proofs.Writing.{count-shift, count-hand, wrote-shift, wrote-hand, inside-here, put-long}
+use mathlib.Core.Path.{refl}
 use native.Mathlib.Omega.{arith}
 use borrow.Author.Needs.{needs}
 use Rattle.copies.proofs.parts.lists.write_walk.Statement.{statement}
@@ -34,7 +33,7 @@ write-shift-requires-2 : tie.Need-write-shift-requires-2
 write-shift-requires-2 c κs =
     let s = c .before .before .before .before .before .before .before .before .before in
     let e = count-hand (s .args .left) (s .args .end) (c .before .before .before .before .before .before .if1 .left) in
-    (s .pre .0, s .pre .1, omega (arith, e), omega (arith, e, ap length (c .before .before .before .before .put-copy .ensures) ∙ length-put-copies _ _ _))
+    (s .pre .0, s .pre .1, omega (arith, e), omega (arith, e, put-long _ _ _ _ (c .before .before .before .before .put-copy .ensures)))
 
 cast-put-copy : tie.Need-cast-put-copy
 cast-put-copy c = let s = c .before .before .before .before .before .before .before .before .before .before .before .before .before in omega (arith, inside-here (s .args .t1 .now) (s .args .left) (s .args .head) (s .pre .0), s .pre .1)
@@ -44,7 +43,7 @@ put-copy-requires-2 c κs =
     let s = c .before .before .before .before .before .before .before .before .before .before .before .before .before in
     let w = c .before .before .before .write-shift2 in
     let e = count-hand (s .args .left) (s .args .end) (c .before .before .before .before .before .before .before .before .before .before .if1 .left) in
-    (omega (arith, e, w .ensures .0), omega (arith, e, w .ensures .0, ap length (w .ensures .1) ∙ length-put-copies _ _ _, ap length (c .before .before .before .before .before .before .before .before .put-copy .ensures) ∙ length-put-copies _ _ _))
+    (omega (arith, e, w .ensures .0), omega (arith, e, w .ensures .0, put-long _ _ _ _ (w .ensures .1), put-long _ _ _ _ (c .before .before .before .before .before .before .before .before .put-copy .ensures)))
 
 add-result : tie.Need-add-result
 add-result c =
