@@ -228,3 +228,10 @@ module _ (words : List ℕ) (x : ℕ) where
     ];
     tops = λ w l. rw (getD-set-other words 65 64 x 0 (λ q. omega arith), getD-set-other words 65 w x 0 (λ q. omega arith)) (t .tops w l);
   }
+
+-- nor does a number marked or cleared change the 66th word
+pub marked-beside : (words : List ℕ) (g : ℕ) → g < 4096 → getD (marked words g) 65 0 ≡ getD words 65 0
+marked-beside words g h = marked-else words g 65 (λ q. omega arith) (λ q. omega arith)
+
+pub cleared-beside : (words : List ℕ) (g : ℕ) → g < 4096 → getD (cleared words g) 65 0 ≡ getD words 65 0
+cleared-beside words g h = cleared-else words g 65 (λ q. omega arith) (λ q. omega arith)

@@ -1,68 +1,180 @@
 -- After a phase carried whole the rows fit the new table. Assumes nothing.
-use mathlib.Core.Path.{_≡_, sym}
-use mathlib.Core.List.{List}
-use Prim.Native.Nat.{ℕ, _+_, _≤_, _<_}
+use mathlib.Core.Path.{_≡_, refl, sym, ap, _∙_}
+use mathlib.Core.Bool.{true, false}
+use mathlib.Core.List.{List, [], _∷_}
+use mathlib.Core.Logic.{_≢_}
+use Prim.Native.Nat.{ℕ, zero, suc, _+_, _-_, _≤_, _<_}
 use native.Mathlib.Omega.{arith}
-use lib.ListN.{length, getD, take, drop}
-use lib.Seq.{drop-drop}
-use Rattle.racks.specs.Racks.{Rack, slots}
+use native.Mathlib.Decide.{ℕ-discrete, decLt}
+use lib.Dec.{ltb}
+use lib.ListN.{length, getD}
+use borrow.Author.Tests.{eq-eqb, ne-eqb}
+use Rattle.counting.specs.Tests.{bit}
+use Rattle.counting.specs.Count.{sum}
+use Rattle.counting.specs.Lists.{Pair, table, join, matching}
+use Rattle.counting.specs.Every.{All}
+use Rattle.counting.specs.Every.All.{more, none}
+use Rattle.counting.proofs.Every.{all-map}
+use Rattle.counting.proofs.Lists.{matching-append, join-more}
+use Rattle.racks.specs.Racks.{Rack, base, slots, rackOf}
 use Rattle.racks.specs.Legal.{Legal}
-use Rattle.phases.specs.Plan.{plan}
-use Rattle.phases.proofs.Plans.{plan-allowed, plan-apart}
-use Rattle.queues.specs.Queues.{Rows, rowsOf, pairsFor, Idle, part}
+use Rattle.racks.proofs.Geometry.{base-mono, end-le}
+use Rattle.racks.proofs.Away.{on-rack}
+use Rattle.tables.specs.Tables.{Filled}
+use Rattle.phases.specs.Plan.{planFor, plan, room}
+use Rattle.phases.proofs.Plans.{Serves, plan-for-serves, plan-allowed, plan-apart}
+use Rattle.bits.specs.Bits.{bitOn}
+use Rattle.queues.specs.Line.{headOf, tailOf, roomOf}
+use Rattle.queues.specs.Queues.{Rows, rowsOf, sent, pairsFor, Visitable, PhasePlanned}
+use Rattle.queues.specs.Openings.{Shown}
 use Rattle.queues.specs.Ready.{Ready}
+use Rattle.queues.proofs.Stretch.{part-drop}
+use Rattle.queues.proofs.Pairing.{sent-le, pairs-long}
+use Rattle.queues.proofs.OpenSlots.{opens-roomy}
 use Rattle.queues.proofs.Ready.{ready-for}
-use Rattle.queues.proofs.Pairing.{served-le}
+use Rattle.queues.proofs.Line.{queue-long}
 use Rattle.moves.specs.Moves.{carriedPlaces}
 use Rattle.moves.proofs.Carry.{InTurn, pairs-in-turn}
 use Rattle.moves.proofs.Waits.{waits-carried}
-use Rattle.budgets.specs.Engine.{noted}
-use Rattle.budgets.proofs.Shows.{Shows, shows-carried}
+use Rattle.budgets.specs.Engine.{noted, notedLine}
+use Rattle.budgets.proofs.Shows.{lands, Midway, midway-carried}
 
--- a part without its first k
-part-drop : (l : List ℕ) (low high k : ℕ) → part l (low + k) high ≡ drop k (part l low high)
-unfolding part
-part-drop l low high k = sym (drop-drop k low (take high l))
+-- moves that all land on rack q
+module _ (racks : List Rack) (p q : ℕ) where
+  land-all : {ms : List Pair} → All (λ (m : Pair). rackOf racks (m .1) ≡ q) ms → q ≡ p → matching (lands racks p) ms ≡ length ms
+  unfolding matching lands
+  land-all none e = refl
+  land-all (more {x} h r) e = rw (eq-eqb (rackOf racks (x .1)) p (h ∙ e)) (omega (arith, land-all r e))
 
-module _ (racks : List Rack) (places : List ℕ) (rows : Rows) (l : Legal racks places) (r : Ready racks places rows) where
-  -- the moves of the plan, each allowed when its turn comes
-  pub plan-in-turn : InTurn racks places (plan racks places)
-  plan-in-turn = pairs-in-turn l (plan-apart racks places) (plan-allowed racks places)
+  land-none : {ms : List Pair} → All (λ (m : Pair). rackOf racks (m .1) ≡ q) ms → q ≢ p → matching (lands racks p) ms ≡ 0
+  unfolding matching lands
+  land-none none d = refl
+  land-none (more {x} h r) d = rw (ne-eqb (rackOf racks (x .1)) p (λ e. d (sym h ∙ e))) (omega (arith, land-none r d))
 
-  module _ (small : slots racks ≤ 4096) (heads : List ℕ) (waiting : ℕ) (heads-long : length heads ≡ 64)
-      (heads-are : (p : ℕ) → p < length racks → getD heads p 0 ≡ getD (rows .heads) p 0 + length (pairsFor rows p))
-      (idle : Idle (length racks) heads (rows .tails) waiting) where
-    shows : Shows racks (carriedPlaces (plan racks places) places) (noted (plan racks places) (rows .bits))
-    shows = shows-carried small l plan-in-turn (record { topped = r .bounded .topped; shown = r .shown })
+module _ (racks : List Rack) (places : List ℕ) where
+  -- the pairs of target q land on q
+  lands-on : (q : ℕ) → All (λ (m : Pair). rackOf racks (m .1) ≡ q) (planFor racks places q)
+  lands-on q = all-map (λ m s. on-rack racks places q (m .1) (s .1 .1)) (plan-for-serves racks places q)
 
-    queued : (p : ℕ) → p < length racks → getD heads p 0 ≤ getD (rows .tails) p 0
-    unfolding pairsFor
-    queued p b =
-        omega (arith, heads-are p b, served-le (rows .bits) (rows .queue) (getD (rows .heads) p 0) (getD (rows .tails) p 0) (getD (rows .firsts) p 0) (getD (rows .ends) p 0) (r .bounded .queued p b) (omega (arith, r .bounded .within p b, r .bounded .queue-long)))
+  -- of the first n targets' pairs, those of p land on p
+  lands-less : (p n : ℕ) → n ≤ p → matching (lands racks p) (join (table n (planFor racks places))) ≡ 0
+  unfolding table join matching
+  lands-less p zero l = refl
+  lands-less p (suc n) l = rw (join-more n (planFor racks places), matching-append) (omega (arith, lands-less p n (omega arith), land-none racks p n (lands-on n) (λ e. omega arith)))
 
-    -- the rows fit the table after the phase
-    pub ready-next : Ready racks (carriedPlaces (plan racks places) places) (rowsOf (rows .queue) heads (rows .tails) (rows .firsts) (rows .ends) (noted (plan racks places) (rows .bits)) waiting)
-    ready-next =
-        record {
-          bounded =
-              record {
-                few = r .bounded .few;
-                queue-long = r .bounded .queue-long;
-                heads-long = heads-long;
-                tails-long = r .bounded .tails-long;
-                firsts-long = r .bounded .firsts-long;
-                ends-long = r .bounded .ends-long;
-                queued = queued;
-                within = r .bounded .within;
-                begun = r .bounded .begun;
-                ended = r .bounded .ended;
-                topped = shows .topped;
-                idle = idle;
-              };
-          waits = λ p b.
-              rw (heads-are p b, part-drop (rows .queue) (getD (rows .heads) p 0) (getD (rows .tails) p 0) (length (pairsFor rows p)), r .waits p b, ready-for racks places rows r p b)
-              (sym (waits-carried racks places l plan-in-turn p b));
-          shown = shows .shown;
-          firsts-are = r .firsts-are;
-          ends-are = r .ends-are;
-        }
+  lands-in : (p n : ℕ) → p < n → matching (lands racks p) (join (table n (planFor racks places))) ≡ length (planFor racks places p)
+  lands-in p zero l = absurd (omega arith)
+  lands-in p (suc n) l = rw (join-more n (planFor racks places), matching-append) (elim (ℕ-discrete n p) [
+    | yes e ↦ rw e (omega (arith, lands-less p p (omega arith), land-all racks p p (lands-on p) refl))
+    | no d ↦ omega (arith, lands-in p n (omega arith), land-none racks p n (lands-on n) d)
+  ])
+
+  -- as many moves of the plan land on p as p has pairs
+  pub plan-lands : (p : ℕ) → p < length racks → matching (lands racks p) (plan racks places) ≡ length (planFor racks places p)
+  unfolding plan
+  plan-lands p l = lands-in p (length racks) l
+
+-- the moves of the plan, each allowed when its turn comes
+pub plan-in-turn : {racks : List Rack} {places : List ℕ} → Legal racks places → InTurn racks places (plan racks places)
+plan-in-turn {racks} {places} l = pairs-in-turn l (plan-apart racks places) (plan-allowed racks places)
+
+module _ {racks : List Rack} {places line bits : List ℕ} (l : Legal racks places) (r : Ready racks places (rowsOf line bits)) (racking : List ℕ) (filled : Filled racks racking)
+    {log : List ℕ} {at : ℕ} {line₁ bits₁ log′ : List ℕ} {count : ℕ} (d : PhasePlanned line bits log at line₁ bits₁ log′ count) where
+  abbrev rows : Rows
+  rows = rowsOf line bits
+
+  abbrev places′ : List ℕ
+  places′ = carriedPlaces (plan racks places) places
+
+  abbrev line′ : List ℕ
+  line′ = notedLine racking (plan racks places) line₁
+
+  abbrev bits′ : List ℕ
+  bits′ = noted (plan racks places) bits₁
+
+  visit : (p : ℕ) → p < 64 → Visitable rows p
+  visit p m = r .bounded .racks p m
+
+  -- a rack takes as many cards as it has pairs
+  sent-is : (p : ℕ) → p < length racks → sent rows p ≡ length (planFor racks places p)
+  sent-is p h =
+      sym (pairs-long rows p (visit p (omega (arith, r .few))) (r .bounded .queue-long)) ∙ ap length (ready-for racks places rows r p h)
+
+  -- planned, but not noted yet
+  midway : Midway racks line₁ bits₁ places (plan racks places) line₁ bits₁
+  unfolding sent
+  midway = record {
+    topped = d .topped;
+    shown = λ k h. d .same k (omega (arith, r .small)) ∙ r .shown k h;
+    waiting-same = refl;
+    rooms-are = λ p h. omega (arith, d .passed .rooms-are p (omega (arith, r .few)), plan-lands racks places p h, sent-is p h, r .rooms-are p h);
+    rooms-same = λ p h i. refl;
+    heads-same = λ p h. refl;
+    tails-same = λ p h. refl;
+    lows-same = λ p h. refl;
+    queue-same = refl;
+    long = d .long;
+  }
+
+  end : Midway racks line₁ bits₁ places′ [] line′ bits′
+  end = midway-carried (r .small) (r .few) racking filled l (plan-in-turn l) midway
+
+  head-is : (p : ℕ) → p < 64 → headOf line′ p ≡ headOf line p + sent rows p
+  head-is p m = end .heads-same p m ∙ d .passed .heads-are p m
+
+  tail-is : (p : ℕ) → p < 64 → tailOf line′ p ≡ tailOf line p
+  tail-is p m = end .tails-same p m ∙ d .passed .tails-are p m
+
+  low-is : (p : ℕ) → p < 64 → rowsOf line′ bits′ .lows p ≡ rows .lows p
+  low-is p m = end .lows-same p m ∙ d .passed .lows-are p m
+
+  queue-is : rowsOf line′ bits′ .queue ≡ rows .queue
+  queue-is = end .queue-same ∙ d .passed .queue-is
+
+  room-is : (p : ℕ) → p < length racks → roomOf line′ p ≡ room racks places′ p
+  unfolding matching
+  room-is p h = omega (arith, end .rooms-are p h)
+
+  room-none : (p : ℕ) → length racks ≤ p → p < 64 → roomOf line′ p ≡ 0
+  room-none p h m = end .rooms-same p h m ∙ omega (arith, d .passed .rooms-are p m, r .others-full p h m)
+
+  visitable : (p : ℕ) → p < 64 → Visitable (rowsOf line′ bits′) p
+  visitable p m =
+      let v = visit p m in
+      record {
+        queued = omega (arith, head-is p m, tail-is p m, sent-le rows p v);
+        within = omega (arith, tail-is p m, v .within);
+        low-in = omega (arith, low-is p m, v .low-in);
+        roomy = elim (decLt p (length racks)) [
+          | yes h ↦ rw (low-is p m, r .lows-are p h) (omega (arith, room-is p h, opens-roomy racks places′ p h (r .small) bits′ (end .shown)))
+          | no h ↦ omega (arith, room-none p (omega arith) m)
+        ];
+      }
+
+  -- the rows fit the table after the phase
+  pub ready-next : Ready racks places′ (rowsOf line′ bits′)
+  ready-next =
+      record {
+        bounded =
+            record {
+              queue-long = queue-long line′ (end .long);
+              racks = visitable;
+              topped = end .topped;
+              exact = λ p m. ap (λ (w : ℕ). bitOn w p) (end .waiting-same) ∙ d .exact p m ∙ rw (end .heads-same p m, end .tails-same p m);
+            };
+        few = r .few;
+        small = r .small;
+        waits = λ p h.
+            let m : p < 64 = omega (arith, r .few) in
+            rw (queue-is, head-is p m, tail-is p m, part-drop (rows .queue) (rows .heads p) (rows .tails p) (sent rows p), r .waits p h, sent-is p h)
+            (sym (waits-carried racks places l (plan-in-turn l) p h));
+        shown = end .shown;
+        rooms-are = room-is;
+        lows-are = λ p h. low-is p (omega (arith, r .few)) ∙ r .lows-are p h;
+        others = λ p h m. omega (arith, head-is p m, tail-is p m, r .others p h m, sent-le rows p (visit p m));
+        others-full = room-none;
+      }
+
+  -- the line has its length
+  pub next-long : length line′ ≡ 4416
+  next-long = end .long

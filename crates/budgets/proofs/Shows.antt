@@ -1,60 +1,161 @@
--- The set of free slots, with moves noted in it, has the free slots of the table after the moves. Assumes nothing.
-use mathlib.Core.Path.{_≡_, sym, _∙_}
-use mathlib.Core.List.{List}
-use Prim.Native.Nat.{ℕ, _+_, _≤_, _<_}
+-- The set of free slots and each rack's room, with moves noted, are those of the table after the moves. Assumes nothing.
+use mathlib.Core.Path.{_≡_, refl, sym, ap, _∙_}
+use mathlib.Core.Bool.{Bool, false}
+use mathlib.Core.Logic.{_≢_}
+use mathlib.Core.List.{List, [], _∷_}
+use Prim.Native.Nat.{ℕ, suc, _+_, _≤_, _<_}
 use native.Mathlib.Omega.{arith}
 use native.Mathlib.Decide.{ℕ-discrete}
-use lib.ListN.{length, getD}
-use Rattle.counting.specs.Lists.{Pair}
-use Rattle.racks.specs.Racks.{Rack, slots}
-use Rattle.racks.specs.Table.{free}
+use lib.Dec.{eqb}
+use lib.ListN.{length, getD, length-set}
+use lib.Seq.{getD-set-same, getD-set-other}
+use borrow.Author.Tests.{eqb-false, eq-eqb, ne-eqb}
+use Rattle.counting.specs.Tests.{bit}
+use Rattle.counting.specs.Lists.{Pair, matching}
+use Rattle.counting.proofs.Tests.{and-off-l, and-off-r, both, not-on, and-r}
+use Rattle.counting.proofs.Count.{count-cong, count-change}
+use Rattle.racks.specs.Racks.{Rack, slots, rackOf}
+use Rattle.racks.specs.Table.{free, rackTo, onRack, away, freeOn}
 use Rattle.racks.specs.Legal.{Legal}
+use Rattle.racks.proofs.Geometry.{rack-lt}
+use Rattle.tables.specs.Tables.{Filled}
+use Rattle.phases.specs.Plan.{room}
 use Rattle.phases.proofs.Allowed.{Allowed}
 use Rattle.bits.specs.Bits.{isOn, marked, cleared, Topped}
-use Rattle.bits.proofs.Sets.{length-marked, length-cleared, topped-marked, topped-cleared, marked-here, marked-other, cleared-here, cleared-other}
+use Rattle.bits.proofs.Sets.{length-marked, topped-marked, topped-cleared, marked-here, marked-other, cleared-here, cleared-other, marked-beside, cleared-beside}
+use Rattle.queues.specs.Line.{queueOf, headOf, tailOf, roomOf, lowOf}
+use Rattle.queues.specs.Queued.{oneMore}
 use Rattle.queues.specs.Openings.{Shown}
+use Rattle.queues.proofs.Line.{queue-kept}
 use Rattle.moves.specs.Moves.{movedPlaces, carriedPlaces}
-use Rattle.moves.specs.Parts.{pairsIn}
-use Rattle.moves.proofs.Flat.{pairs-more, pairs-none}
 use Rattle.moves.proofs.Moved.{legal-moved, allowed-free, free-from, same-free, taken-to}
 use Rattle.moves.proofs.Carry.{InTurn}
 use Rattle.moves.proofs.Carry.InTurn.{stop, next}
-use Rattle.budgets.specs.Engine.{note, noted}
+use Rattle.budgets.specs.Engine.{note, noted, noteLine, notedLine}
 
--- a move keeps the length of the set's list
-pub length-note : (m : Pair) (bits : List ℕ) → length (note m bits) ≡ length bits
-unfolding note
-length-note m bits = length-cleared (marked bits (m .0)) (m .1) ∙ length-marked bits (m .0)
+-- a move lands on rack p
+unfoldable pub lands : List Rack → ℕ → Pair → Bool
+lands racks p m = eqb (rackOf racks (m .1)) p
 
--- the moves of a list of numbers, noted one by one
-module _ (list : List ℕ) (i high : ℕ) (fits : high ≤ length list) where
-  -- the first of those left is noted: those after it give the same
-  pub noted-more : (bits end : List ℕ) → i + 2 ≤ high → noted (pairsIn list i high) bits ≡ end
-      → noted (pairsIn list (i + 2) high) (cleared (marked bits (getD list i 0)) (getD list (i + 1) 0)) ≡ end
-  unfolding noted note
-  noted-more bits end l rest = rw (pairs-more list i high fits l) at rest
+module _ {racks : List Rack} {places : List ℕ} {m : Pair} (l : Legal racks places) (a : Allowed racks places m) where
+  -- the two ends of an allowed move are on two racks
+  ends-differ : rackOf racks (m .0) ≢ rackOf racks (m .1)
+  unfolding away onRack
+  ends-differ e = eqb-false _ _ (not-on (and-r _ (a .is-away))) (e ∙ a .meets)
 
-  -- none is left
-  pub noted-done : (bits end : List ℕ) → high < i + 2 → noted (pairsIn list i high) bits ≡ end → bits ≡ end
-  unfolding noted
-  noted-done bits end l rest = rw (pairs-none list i high fits l) at rest
+  -- a slot of another rack is no free slot of p
+  other-rack : (places′ : List ℕ) (p g : ℕ) → rackOf racks g ≢ p → freeOn racks places′ p g ≡ false
+  unfolding freeOn
+  other-rack places′ p g d = and-off-r (free places′ g) (ne-eqb _ _ d)
 
--- a set of the free slots of a table
-pub record Shows (racks : List Rack) (places bits : List ℕ) : Type 0 where
+  -- a slot that is no end is free on p as it was
+  same-on : (p g : ℕ) → g ≢ m .0 → g ≢ m .1 → freeOn racks (movedPlaces m places) p g ≡ freeOn racks places p g
+  unfolding freeOn
+  same-on p g d e = rw (same-free l (allowed-free a) g d e)
+
+  -- the rack that a card leaves has one free slot more
+  room-from : room racks (movedPlaces m places) (rackOf racks (m .0)) ≡ suc (room racks places (rackOf racks (m .0)))
+  unfolding room freeOn
+  room-from = count-change (slots racks) _ _ (m .0) (a .from-lt)
+      (both (free-from l (allowed-free a)) (eq-eqb (rackOf racks (m .0)) _ refl))
+      (and-off-l _ (allowed-free a .is-held))
+      (λ j _ d. elim (ℕ-discrete j (m .1)) [
+        | yes e ↦ rw e (other-rack (movedPlaces m places) (rackOf racks (m .0)) (m .1) (λ q. ends-differ (sym q)) ∙ sym (other-rack places (rackOf racks (m .0)) (m .1) (λ q. ends-differ (sym q))))
+        | no e ↦ same-on (rackOf racks (m .0)) j d e
+      ])
+
+  -- the rack that it comes to has one less
+  room-to : room racks places (rackOf racks (m .1)) ≡ suc (room racks (movedPlaces m places) (rackOf racks (m .1)))
+  unfolding room freeOn
+  room-to = count-change (slots racks) _ _ (m .1) (a .to-lt)
+      (both (a .is-free) (eq-eqb (rackOf racks (m .1)) _ refl))
+      (and-off-l _ (taken-to l (allowed-free a)))
+      (λ j _ d. elim (ℕ-discrete j (m .0)) [
+        | yes e ↦ rw e (other-rack places (rackOf racks (m .1)) (m .0) ends-differ ∙ sym (other-rack (movedPlaces m places) (rackOf racks (m .1)) (m .0) ends-differ))
+        | no e ↦ sym (same-on (rackOf racks (m .1)) j e d)
+      ])
+
+  -- any other has as many
+  room-else : (p : ℕ) → rackOf racks (m .0) ≢ p → rackOf racks (m .1) ≢ p → room racks (movedPlaces m places) p ≡ room racks places p
+  unfolding room
+  room-else p d e = count-cong (slots racks) _ _ (λ j _. elim (ℕ-discrete j (m .0)) [
+    | yes i ↦ rw i (other-rack (movedPlaces m places) p (m .0) d ∙ sym (other-rack places p (m .0) d))
+    | no i ↦ elim (ℕ-discrete j (m .1)) [
+      | yes k ↦ rw k (other-rack (movedPlaces m places) p (m .1) e ∙ sym (other-rack places p (m .1) e))
+      | no k ↦ same-on p j i k
+    ]
+  ])
+
+  -- the room of each rack: one more where the move came from, one less where it went
+  pub room-moved : (p : ℕ) → room racks places p + bit (eqb (rackOf racks (m .0)) p) ≡ room racks (movedPlaces m places) p + bit (lands racks p m)
+  unfolding lands
+  room-moved p = elim (ℕ-discrete (rackOf racks (m .0)) p) [
+    | yes e ↦ rw (← e) (omega (arith, room-from, ap bit (eq-eqb (rackOf racks (m .0)) (rackOf racks (m .0)) refl), ap bit (ne-eqb (rackOf racks (m .1)) (rackOf racks (m .0)) (λ q. ends-differ (sym q)))))
+    | no d ↦ elim (ℕ-discrete (rackOf racks (m .1)) p) [
+      | yes e ↦ rw (← e) (omega (arith, room-to, ap bit (eq-eqb (rackOf racks (m .1)) (rackOf racks (m .1)) refl), ap bit (ne-eqb (rackOf racks (m .0)) (rackOf racks (m .1)) ends-differ)))
+      | no f ↦ omega (arith, room-else p d f, ap bit (ne-eqb (rackOf racks (m .0)) p d), ap bit (ne-eqb (rackOf racks (m .1)) p f))
+    ]
+  ]
+
+-- a move noted in the line changes the room of its source's rack alone
+module _ (racking : List ℕ) (m : Pair) (line : List ℕ) (few : getD racking (m .0) 0 < 64) where
+  pub note-long : length (noteLine racking m line) ≡ length line
+  unfolding noteLine oneMore
+  note-long = length-set line _ _
+
+  pub note-queue : queueOf (noteLine racking m line) ≡ queueOf line
+  unfolding noteLine oneMore
+  note-queue = queue-kept line _ _ (omega arith)
+
+  pub note-else : (k : ℕ) → k ≢ 4288 + getD racking (m .0) 0 → getD (noteLine racking m line) k 0 ≡ getD line k 0
+  unfolding noteLine oneMore
+  note-else k d = getD-set-other line _ k _ 0 d
+
+  pub note-here : length line ≡ 4416 → roomOf (noteLine racking m line) (getD racking (m .0) 0) ≡ roomOf line (getD racking (m .0) 0) + 1
+  unfolding noteLine oneMore
+  note-here e = getD-set-same line (4288 + getD racking (m .0) 0) _ 0 (omega arith)
+
+-- the lists of the engine where moves of a phase are still to be noted: the set has the free slots, and each rack's room is what is counted and
+-- what still lands on it; all else is as when the phase was planned
+pub record Midway (racks : List Rack) (start words : List ℕ) (places : List ℕ) (ms : List Pair) (line bits : List ℕ) : Type 0 where
   pub topped : Topped bits
   pub shown : Shown (slots racks) places bits
+  pub waiting-same : getD bits 65 0 ≡ getD words 65 0
+  pub rooms-are : (p : ℕ) → p < length racks → roomOf line p + matching (lands racks p) ms ≡ room racks places p
+  pub rooms-same : (p : ℕ) → length racks ≤ p → p < 64 → roomOf line p ≡ roomOf start p
+  pub heads-same : (p : ℕ) → p < 64 → headOf line p ≡ headOf start p
+  pub tails-same : (p : ℕ) → p < 64 → tailOf line p ≡ tailOf start p
+  pub lows-same : (p : ℕ) → p < 64 → lowOf line p ≡ lowOf start p
+  pub queue-same : queueOf line ≡ queueOf start
+  pub long : length line ≡ 4416
 
-module _ {racks : List Rack} (small : slots racks ≤ 4096) where
+module _ {racks : List Rack} (small : slots racks ≤ 4096) (fewRacks : length racks ≤ 64) (racking : List ℕ) (filled : Filled racks racking) {start words : List ℕ} where
   -- a move noted
-  shows-moved : {places : List ℕ} {m : Pair} {bits : List ℕ} → Legal racks places → Allowed racks places m → Shows racks places bits → Shows racks (movedPlaces m places) (note m bits)
-  unfolding note
-  shows-moved {places} {m} {bits} l a s =
+  midway-moved : {places : List ℕ} {m : Pair} {ms : List Pair} {line bits : List ℕ} → Legal racks places → Allowed racks places m → Midway racks start words places (m ∷ ms) line bits
+      → Midway racks start words (movedPlaces m places) ms (noteLine racking m line) (note m bits)
+  unfolding note matching
+  midway-moved {places} {m} {ms} {line} {bits} l a s =
       record {
         topped = topped-cleared (topped-marked (s .topped) (m .0) from-in) (m .1) to-in;
         shown = λ k h. elim (ℕ-discrete k (m .1)) [
           | yes e ↦ rw e (cleared-here (marked bits (m .0)) (m .1) long to-in ∙ sym (taken-to l (allowed-free a)))
           | no d ↦ cleared-other (marked bits (m .0)) (m .1) k long to-in (omega arith) d ∙ with-source k h d
         ];
+        waiting-same = cleared-beside (marked bits (m .0)) (m .1) to-in ∙ marked-beside bits (m .0) from-in ∙ s .waiting-same;
+        rooms-are = λ p h. elim (ℕ-discrete p (rackOf racks (m .0))) [
+          | yes e ↦
+              let here : roomOf (noteLine racking m line) p ≡ roomOf line p + 1 = rw (e, ← rack) (note-here racking m line few (s .long)) in
+              omega (arith, here, s .rooms-are p h, room-moved l a p, ap bit (eq-eqb (rackOf racks (m .0)) p (sym e)))
+          | no d ↦
+              let same : roomOf (noteLine racking m line) p ≡ roomOf line p = note-else racking m line few (4288 + p) (λ i. d (omega (arith, rack))) in
+              omega (arith, same, s .rooms-are p h, room-moved l a p, ap bit (ne-eqb (rackOf racks (m .0)) p (λ i. d (sym i))))
+        ];
+        rooms-same = λ p h i. note-else racking m line few (4288 + p) (λ q. omega (arith, rack, rack-lt racks (m .0) (a .from-lt))) ∙ s .rooms-same p h i;
+        heads-same = λ p h. note-else racking m line few (4160 + p) (λ q. omega arith) ∙ s .heads-same p h;
+        tails-same = λ p h. note-else racking m line few (4224 + p) (λ q. omega arith) ∙ s .tails-same p h;
+        lows-same = λ p h. note-else racking m line few (4352 + p) (λ q. omega (arith, few)) ∙ s .lows-same p h;
+        queue-same = note-queue racking m line few ∙ s .queue-same;
+        long = note-long racking m line few ∙ s .long;
       }
     where
       from-in : m .0 < 4096
@@ -63,7 +164,13 @@ module _ {racks : List Rack} (small : slots racks ≤ 4096) where
       to-in : m .1 < 4096
       to-in = omega (arith, a .to-lt)
 
-      long : length (marked bits (m .0)) ≡ 65
+      rack : getD racking (m .0) 0 ≡ rackOf racks (m .0)
+      rack = filled (m .0) (a .from-lt)
+
+      few : getD racking (m .0) 0 < 64
+      few = omega (arith, rack, rack-lt racks (m .0) (a .from-lt))
+
+      long : length (marked bits (m .0)) ≡ 66
       long = length-marked bits (m .0) ∙ s .topped .long
 
       with-source : (k : ℕ) → k < slots racks → (k ≡ m .1 → ⊥) → isOn (marked bits (m .0)) k ≡ free (movedPlaces m places) k
@@ -74,8 +181,16 @@ module _ {racks : List Rack} (small : slots racks ≤ 4096) where
       ]
 
   -- moves noted
-  pub shows-carried : {places : List ℕ} {ms : List Pair} {bits : List ℕ} → Legal racks places → InTurn racks places ms → Shows racks places bits
-      → Shows racks (carriedPlaces ms places) (noted ms bits)
-  unfolding carriedPlaces noted
-  shows-carried l stop s = s
-  shows-carried l (next a t) s = shows-carried (legal-moved l (allowed-free a)) t (shows-moved l a s)
+  pub midway-carried : {places : List ℕ} {ms : List Pair} {line bits : List ℕ} → Legal racks places → InTurn racks places ms → Midway racks start words places ms line bits
+      → Midway racks start words (carriedPlaces ms places) [] (notedLine racking ms line) (noted ms bits)
+  unfolding carriedPlaces noted notedLine
+  midway-carried l stop s = s
+  midway-carried l (next a t) s = midway-carried (legal-moved l (allowed-free a)) t (midway-moved l a s)
+
+-- moves noted leave the line as long as it was
+pub noted-long : {racks : List Rack} (racking : List ℕ) → Filled racks racking → length racks ≤ 64 → {places : List ℕ} {ms : List Pair} (line : List ℕ) → Legal racks places → InTurn racks places ms
+    → length line ≡ 4416 → length (notedLine racking ms line) ≡ 4416
+unfolding notedLine
+noted-long racking filled few line l stop e = e
+noted-long {racks} racking filled few line l (next {m} a t) e =
+    noted-long racking filled few (noteLine racking m line) (legal-moved l (allowed-free a)) t (note-long racking m line (omega (arith, filled (m .0) (a .from-lt), rack-lt racks (m .0) (a .from-lt))) ∙ e)

@@ -2,172 +2,211 @@
 use mathlib.Core.Path.{_≡_, refl, ap, sym, _∙_}
 use mathlib.Core.Bool.{true, false}
 use mathlib.Core.List.{List, [], _++_}
-use Prim.Native.Nat.{ℕ, _+_, _-_, _*_, _≤_, _<_, min}
+use Prim.Native.Nat.{ℕ, _+_, _-_, _*_, _^_, _≤_, _<_, min}
 use native.Mathlib.Omega.{arith}
-use native.Mathlib.Nat.{min-comm}
 use native.Mathlib.Decide.{decLt}
-use lib.ListN.{length, take, length-take}
-use lib.Seq.{length-sets, take-all, take-nil}
+use lib.ListN.{length, take, length-take, getD}
+use lib.Seq.{length-sets, take-all}
 use Rattle.counting.specs.Lists.{Pair}
-use Rattle.counting.proofs.Tests.{by-test}
 use Rattle.counting.proofs.Every.{all-map}
 use Rattle.racks.specs.Racks.{Rack, slots}
 use Rattle.racks.specs.Table.{aways}
 use Rattle.racks.specs.Numbers.{someAway}
 use Rattle.racks.specs.Legal.{Legal, Spared}
-use Rattle.racks.proofs.LegalTable.{legal}
-use Rattle.racks.proofs.Jobs.{sound-racks}
+use Rattle.racks.proofs.Geometry.{rack-lt}
+use Rattle.racks.proofs.Away.{aways-few}
+use Rattle.racks.proofs.Jobs.{sound-few}
 use Rattle.racks.specs.Job.{racksOf}
 use Rattle.racks.specs.declared.Job.{Job}
+use Rattle.answers.specs.declared.Tally.{Tally}
+use Rattle.answers.specs.Answers.{noCounts}
+use Rattle.tables.specs.Tables.{Filled}
 use Rattle.phases.specs.Plan.{plan}
-use Rattle.phases.proofs.Plans.{plan-allowed, plan-few}
-use Rattle.phases.proofs.Possible.{plan-none}
-use Rattle.queues.specs.Queues.{Rows, rowsOf, queuedPlan}
+use Rattle.phases.proofs.Plans.{plan-allowed, plan-aways, plan-few}
+use Rattle.queues.specs.Queues.{rowsOf, queuedPlan}
 use Rattle.queues.specs.Ready.{Ready}
-use Rattle.queues.proofs.Ready.{ready-bounded, ready-count}
+use Rattle.queues.proofs.Ready.{ready-plan}
 use Rattle.moves.specs.Moves.{carriedPlaces, carriedCards, Held, carried}
 use Rattle.moves.specs.Phases.{budget}
 use Rattle.moves.proofs.Carry.{InTurn, in-turn-take, legal-carried, aways-carried, length-carried-cards, carried-append}
 use Rattle.moves.proofs.Phases.{aways-none, budget-none, budget-step}
 use Rattle.moves.proofs.FirstFit.{first-fit}
-use Rattle.budgets.specs.Engine.{Runnable, PhaseRun, Going, Made}
+use Rattle.budgets.specs.Engine.{notedLine, Runnable, PhaseRun, Going, Made}
 use Rattle.budgets.proofs.NextPhase.{plan-in-turn, ready-next}
+use Rattle.budgets.proofs.Shows.{noted-long}
+use Rattle.budgets.proofs.Waiting.{none-waits, some-waits}
 
 -- no allowance, no moves
 budget-zero : (racks : List Rack) (places : List ℕ) → budget racks 0 places ≡ []
 unfolding budget
 budget-zero racks places = refl
 
--- an allowance spent in part: what was made and what can be made stay together
-spend : (k left made a rest total : ℕ) → left ≤ k → made ≤ left → a ≡ made + rest → (k - left) + min left a ≡ total → (k - (left - made)) + min (left - made) rest ≡ total
-spend k left made a rest total l m e h =
-    let x : k - (left - made) ≡ (k - left) + made = omega arith in
-    let y : min left (made + rest) ≡ made + min (left - made) rest = omega arith in
-    rw x (omega (arith, y, rw e at h))
+-- counts, by their three numbers
+pub tally-is : (t : Tally) (x y z : ℕ) → t .phases ≡ x → t .moves ≡ y → t .copies ≡ z → t ≡ record { phases = x; moves = y; copies = z }
+tally-is t x y z p q r = rw (← p, ← q, ← r)
 
 -- what does not change from turn to turn
-pub record Fixed (racks : List Rack) (n : ℕ) : Type 0 where
+pub record Fixed (racks : List Rack) (racking : List ℕ) : Type 0 where
   pub spared : Spared racks
   pub small : slots racks ≤ 4096
-  pub racks-are : n ≡ length racks
+  pub few : length racks ≤ 64
+  pub filled : Filled racks racking
 
--- with `left` of an allowance of k to go
-pub record Turn (racks : List Rack) (b k : ℕ) (h₀ : Held) (rows : Rows) (h : Held) (pairs : List ℕ) (left : ℕ) : Type 0 where
-  pub within : left ≤ k
+-- some of an allowance of k moves are made since the table and the cards were h₀
+pub record Turn (racks : List Rack) (b k : ℕ) (h₀ : Held) (t : Tally) (h : Held) (line bits log : List ℕ) : Type 0 where
+  pub within : t .moves ≤ k
   pub legal : Legal racks (h .places)
   pub cards-long : length (h .cards) ≡ slots racks * b
-  pub room : 8192 ≤ length pairs
-  pub ready : 0 < left → Ready racks (h .places) rows
-  pub rest : carried b (budget racks left (h .places)) h ≡ carried b (budget racks k (h₀ .places)) h₀
-  pub count : (k - left) + min left (aways racks (h .places)) ≡ min k (aways racks (h₀ .places))
+  pub line-long : length line ≡ 4416
+  pub room : 8192 ≤ length log
+  pub ready : t .moves < k → Ready racks (h .places) (rowsOf line bits)
+  pub rest : carried b (budget racks (k - t .moves) (h .places)) h ≡ carried b (budget racks k (h₀ .places)) h₀
+  pub count : t .moves + aways racks (h .places) ≡ aways racks (h₀ .places)
 
--- the allowance is used up
-pub turn-done : {racks : List Rack} {b k : ℕ} {h₀ : Held} {rows : Rows} {h : Held} {pairs : List ℕ} {left : ℕ} → Turn racks b k h₀ rows h pairs left → left ≡ 0 → Made racks b k h₀ h k
-unfolding carriedPlaces carriedCards
-turn-done {racks} {b} {k} {h₀} {h} {left} t z =
-    let rest = rw (z, budget-zero racks (h .places)) at (t .rest) in
-    record { made-is = omega (arith, t .count); held-is = rest }
+-- counts of moves alone
+pub record MovesOnly (t : Tally) : Type 0 where
+  pub phases-none : t .phases ≡ 0
+  pub copies-none : t .copies ≡ 0
 
-module _ (racks : List Rack) (n : ℕ) (f : Fixed racks n) (b k : ℕ) (h₀ : Held) (rows : Rows) (h : Held) (pairs : List ℕ) (left : ℕ)
-    (t : Turn racks b k h₀ rows h pairs left) (l : 0 < left) where
-  all-is : queuedPlan n rows ≡ plan racks (h .places)
-  all-is = ready-count racks (h .places) rows (t .ready l) n (f .racks-are)
+module _ {racks : List Rack} {b k : ℕ} {h₀ : Held} {t : Tally} {h : Held} {line bits log : List ℕ} (s : Turn racks b k h₀ t h line bits log) where
+  -- k moves are made
+  pub turn-spent : MovesOnly t → k ≤ t .moves → Made racks b k h₀ h t
+  unfolding carriedPlaces carriedCards
+  turn-spent o l =
+      let z : k - t .moves ≡ 0 = omega arith in
+      let n : t .moves ≡ min k (aways racks (h₀ .places)) = omega (arith, s .count, s .within) in
+      record { tally-is = tally-is t _ _ _ (o .phases-none) n (o .copies-none); held-is = rw (z, budget-zero racks (h .places)) at (s .rest) }
 
-  -- a phase can be run
-  pub turn-runnable : Runnable n b rows h pairs
-  turn-runnable =
-      record {
-        bounded = ready-bounded racks (h .places) rows (t .ready l) n (f .racks-are);
-        small = omega (arith, t .legal .long, f .small);
-        sized = ap (λ (s : ℕ). s * b) (t .legal .long) ∙ sym (t .cards-long);
-        slots = rw (all-is, t .legal .long) (all-map (λ m a. record { from-lt = a .from-lt; to-lt = a .to-lt }) (plan-allowed racks (h .places)));
-        room = rw all-is (omega (arith, plan-few racks (h .places), f .small, t .room));
+  -- no rack waits
+  pub turn-idle : MovesOnly t → t .moves < k → getD bits 65 0 ≡ 0 → Made racks b k h₀ h t
+  unfolding carriedPlaces carriedCards
+  turn-idle o l e =
+      let f = none-waits (s .ready l) (s .legal) e in
+      let n : t .moves ≡ min k (aways racks (h₀ .places)) = omega (arith, s .count, aways-none racks (h .places) f) in
+      record { tally-is = tally-is t _ _ _ (o .phases-none) n (o .copies-none); held-is = rw (budget-none racks (h .places) (k - t .moves) f) at (s .rest) }
+
+  module _ {racking : List ℕ} (f : Fixed racks racking) (l : t .moves < k) where
+    all-is : queuedPlan 64 (rowsOf line bits) ≡ plan racks (h .places)
+    all-is = ready-plan racks (h .places) (rowsOf line bits) (s .ready l)
+
+    -- a phase can be run
+    pub turn-runnable : Runnable b k t h racking line bits log
+    turn-runnable =
+        record {
+          within = s .within;
+          few = omega (arith, s .count, aways-few racks (h₀ .places), f .small);
+          plannable = record {
+            long = s .line-long;
+            bounded = s .ready l .bounded;
+            fits = rw all-is (omega (arith, plan-aways racks (h .places), s .count, aways-few racks (h₀ .places), f .small, s .room));
+          };
+          small = omega (arith, s .legal .long, f .small);
+          sized = ap (λ (n : ℕ). n * b) (s .legal .long) ∙ sym (s .cards-long);
+          plan-few = rw all-is (omega (arith, plan-few racks (h .places), f .small));
+          slots = rw (all-is, s .legal .long) (all-map (λ m a. record { from-lt = a .from-lt; to-lt = a .to-lt }) (plan-allowed racks (h .places)));
+          racked = λ g i. let j : g < slots racks = omega (arith, s .legal .long) in omega (arith, f .filled g j, rack-lt racks g j, f .few);
+        }
+
+    -- the phase is run
+    module _ {t′ : Tally} {h′ : Held} {line′ bits′ log′ : List ℕ} (r : PhaseRun b k t h racking line bits log t′ h′ line′ bits′ log′) where
+      abbrev made : List Pair
+      made = take (k - t .moves) (plan racks (h .places))
+
+      pub held-is : h′ ≡ carried b made h
+      held-is = rw (← all-is) (r .done .held-is)
+
+      pub moves-are : t′ .moves ≡ t .moves + length made
+      moves-are = rw (← all-is) (ap (λ (x : Tally). x .moves) (r .done .tally-is))
+
+      -- it counts nothing but moves
+      pub moves-only : MovesOnly t → MovesOnly t′
+      moves-only o = record {
+        phases-none = ap (λ (x : Tally). x .phases) (r .done .tally-is) ∙ o .phases-none;
+        copies-none = ap (λ (x : Tally). x .copies) (r .done .tally-is) ∙ o .copies-none;
       }
 
-  module _ (made : ℕ) (h′ : Held) (pairs′ heads bits : List ℕ) (waiting : ℕ) (r : PhaseRun n b left rows h pairs made h′ pairs′ heads bits waiting) where
-    pub made-is : made ≡ min (length (plan racks (h .places))) left
-    made-is = r .made-is ∙ ap (λ (ms : List Pair). min (length ms) left) all-is
+      in-turn : InTurn racks (h .places) made
+      in-turn = in-turn-take (k - t .moves) (plan-in-turn (s .legal))
 
-    pub held-is : h′ ≡ carried b (take left (plan racks (h .places))) h
-    held-is = rw (← all-is) (r .held-is)
+      made-long : length made ≡ min (k - t .moves) (length (plan racks (h .places)))
+      made-long = length-take (k - t .moves) (plan racks (h .places))
 
-    in-turn : InTurn racks (h .places) (take left (plan racks (h .places)))
-    in-turn = in-turn-take left (plan-in-turn racks (h .places) rows (t .legal) (t .ready l))
+      module _ (e : someAway racks (h .places) ≡ true) where
+        -- it moves a card
+        pub turn-more : t .moves < t′ .moves
+        turn-more = omega (arith, moves-are, made-long, first-fit (f .spared) .has-pair (h .places) (s .legal) e)
 
-    -- nothing was away, so all is made
-    pub turn-none : made ≡ 0 → Made racks b k h₀ h′ (k - left)
-    unfolding carriedPlaces carriedCards
-    turn-none z = by-test (someAway racks (h .places)) (λ e. absurd (some e)) none
-      where
-        some : someAway racks (h .places) ≡ true → ⊥
-        some e = omega (arith, made-is, first-fit (f .spared) .has-pair (h .places) (t .legal) e)
+        -- the moves left, after this phase's
+        left-over : budget racks (k - t .moves) (h .places) ≡ made ++ budget racks (k - t′ .moves) (h′ .places)
+        left-over = elim (decLt (length (plan racks (h .places))) (k - t .moves)) [
+          | yes m ↦
+              let n : k - t′ .moves ≡ (k - t .moves) - length (plan racks (h .places)) = omega (arith, moves-are, made-long) in
+              let q : made ≡ plan racks (h .places) = take-all (k - t .moves) (plan racks (h .places)) (omega arith) in
+              rw (held-is, n) (rw q (rw q at (budget-step (first-fit (f .spared)) (s .legal) (k - t .moves) e)))
+          | no m ↦
+              let n : k - t′ .moves ≡ 0 = omega (arith, moves-are, made-long) in
+              let o : (k - t .moves) - length (plan racks (h .places)) ≡ 0 = omega arith in
+              rw (n, budget-zero racks (h′ .places)) (rw (o, budget-zero racks (carriedPlaces (plan racks (h .places)) (h .places))) at (budget-step (first-fit (f .spared)) (s .legal) (k - t .moves) e))
+        ]
 
-        none : someAway racks (h .places) ≡ false → Made racks b k h₀ h′ (k - left)
-        none e =
-            let rest = rw (budget-none racks (h .places) left e) at (t .rest) in
+        -- the next turn
+        pub turn-next : Turn racks b k h₀ t′ h′ line′ bits′ log′
+        turn-next =
             record {
-              made-is = omega (arith, t .count, aways-none racks (h .places) e);
-              held-is = rw held-is (rw (plan-none racks (h .places) e, take-nil {A = Pair} left) rest);
+              within = omega (arith, moves-are, made-long);
+              legal = rw held-is (legal-carried (s .legal) in-turn);
+              cards-long = rw held-is (length-carried-cards b made (h .cards) ∙ s .cards-long);
+              line-long = ap length (r .noted-are .line-is) ∙ noted-long racking (f .filled) (f .few) (r .line₁) (s .legal) in-turn-all (r .planned .long);
+              room = rw (r .planned .written .list, length-sets) (s .room);
+              ready = ready;
+              rest = ap (carried b (budget racks (k - t′ .moves) (h′ .places))) held-is ∙ sym (carried-append b _ _ h) ∙ ap (λ (ms : List Pair). carried b ms h) (sym left-over) ∙ s .rest;
+              count = rw held-is (omega (arith, moves-are, aways-carried (s .legal) in-turn, s .count));
             }
+          where
+            in-turn-all : InTurn racks (h .places) (take (k - t .moves) (queuedPlan 64 (rowsOf line bits)))
+            in-turn-all = rw all-is in-turn
 
-    module _ (nz : made ≡ 0 → ⊥) where
-      away : someAway racks (h .places) ≡ true
-      away = by-test (someAway racks (h .places)) (λ e. e)
-          (λ e. absurd (nz (omega (arith, made-is, ap length (plan-none racks (h .places) e)))))
-
-      -- the moves left, after this phase's
-      left-over : budget racks left (h .places) ≡ take left (plan racks (h .places)) ++ budget racks (left - made) (h′ .places)
-      left-over = elim (decLt (length (plan racks (h .places))) left) [
-        | yes m ↦
-            let e : made ≡ length (plan racks (h .places)) = omega (arith, made-is) in
-            let q : take left (plan racks (h .places)) ≡ plan racks (h .places) = take-all left (plan racks (h .places)) (omega arith) in
-            rw (held-is, e) (rw q (rw q at (budget-step (first-fit (f .spared)) (t .legal) left away)))
-        | no m ↦
-            let e : left - made ≡ 0 = omega (arith, made-is) in
-            let o : left - length (plan racks (h .places)) ≡ 0 = omega arith in
-            rw (e, budget-zero racks (h′ .places)) (rw (o, budget-zero racks (carriedPlaces (plan racks (h .places)) (h .places))) at (budget-step (first-fit (f .spared)) (t .legal) left away))
-      ]
-
-      -- the next turn
-      pub turn-next : Turn racks b k h₀ (rowsOf (rows .queue) heads (rows .tails) (rows .firsts) (rows .ends) bits waiting) h′ pairs′ (left - made)
-      turn-next =
-          record {
-            within = omega (arith, t .within);
-            legal = rw held-is (legal-carried (t .legal) in-turn);
-            cards-long = rw held-is (length-carried-cards b (take left (plan racks (h .places))) (h .cards) ∙ t .cards-long);
-            room = rw (r .list, length-sets) (t .room);
-            ready = ready;
-            rest = ap (carried b (budget racks (left - made) (h′ .places))) held-is ∙ sym (carried-append b _ _ h) ∙ ap (λ (ms : List Pair). carried b ms h) (sym left-over) ∙ t .rest;
-            count = counted (aways-carried (t .legal) in-turn) (length-take left (plan racks (h .places)));
-          }
-        where
-          ready : 0 < left - made → Ready racks (h′ .places) (rowsOf (rows .queue) heads (rows .tails) (rows .firsts) (rows .ends) bits waiting)
-          ready o =
-              let q : take left (plan racks (h .places)) ≡ plan racks (h .places) = take-all left (plan racks (h .places)) (omega (arith, made-is)) in
-              rw (held-is, r .bits-are, all-is, q)
-              (ready-next racks (h .places) rows (t .legal) (t .ready l) (f .small) heads waiting (r .heads-long)
-              (λ p i. r .heads-are p (omega (arith, f .racks-are))) (λ p i. r .idle p (omega (arith, f .racks-are))))
-
-          counted : aways racks (h .places) ≡ length (take left (plan racks (h .places))) + aways racks (carriedPlaces (take left (plan racks (h .places))) (h .places))
-              → length (take left (plan racks (h .places))) ≡ min left (length (plan racks (h .places)))
-              → (k - (left - made)) + min (left - made) (aways racks (h′ .places)) ≡ min k (aways racks (h₀ .places))
-          counted x y =
-              let e : length (take left (plan racks (h .places))) ≡ made = y ∙ min-comm left (length (plan racks (h .places))) ∙ sym made-is in
-              rw held-is (spend k left made _ _ _ (t .within) (omega (arith, made-is)) (x ∙ rw e) (t .count))
+            ready : t′ .moves < k → Ready racks (h′ .places) (rowsOf line′ bits′)
+            ready o =
+                let q : made ≡ plan racks (h .places) = take-all (k - t .moves) (plan racks (h .places)) (omega (arith, moves-are, made-long)) in
+                rw (held-is, r .noted-are .line-is, r .noted-are .bits-are, all-is, q)
+                (ready-next (s .legal) (s .ready l) racking (f .filled) (r .planned))
 
 -- the first turn
-module _ {job : Job} {b : ℕ} {rows : Rows} {h : Held} {pairs : List ℕ} (g : Going job b rows h pairs) where
-  pub going-fixed : Fixed (racksOf job) (job .racks)
-  going-fixed = record { spared = g .sound .spared; small = g .sound .small; racks-are = sound-racks job (g .sound) }
+module _ {job : Job} {b : ℕ} {h : Held} {racking line bits log : List ℕ} (g : Going job b h racking line bits log) where
+  pub going-fixed : Fixed (racksOf job) racking
+  going-fixed = record { spared = g .spared; small = g .opened .sound .small; few = sound-few job (g .opened .sound); filled = g .opened .filled }
 
-  pub turn-first : (k : ℕ) → Turn (racksOf job) b k h rows h pairs k
+  pub turn-first : (k : ℕ) → Turn (racksOf job) b k h noCounts h line bits log
   turn-first k =
+      let z : k - 0 ≡ k = omega arith in
       record {
         within = omega arith;
-        legal = legal (racksOf job) (h .places) (g .legal);
+        legal = g .opened .legal;
         cards-long = g .cards-long;
+        line-long = g .started .long;
         room = g .room;
-        ready = λ _. g .ready;
-        rest = refl;
+        ready = λ _. g .started .ready;
+        rest = rw z;
         count = omega arith;
       }
+
+-- the turn that a job has come to, whatever job was begun with
+pub record Turning (b k : ℕ) (h₀ : Held) (racking line₀ bits₀ log₀ : List ℕ) (t : Tally) (h : Held) (line bits log : List ℕ) : Type 0 where
+  pub turn : (job : Job) → Going job b h₀ racking line₀ bits₀ log₀ → Turn (racksOf job) b k h₀ t h line bits log
+
+module _ {b k : ℕ} {h₀ : Held} {racking line₀ bits₀ log₀ : List ℕ} where
+  pub turning-first : Turning b k h₀ racking line₀ bits₀ log₀ noCounts h₀ line₀ bits₀ log₀
+  turning-first = record { turn = λ job g. turn-first g k }
+
+  -- some rack waits, and a phase is run
+  module _ {t : Tally} {h : Held} {line bits log : List ℕ} (s : Turning b k h₀ racking line₀ bits₀ log₀ t h line bits log) (l : t .moves < k) (w : getD bits 65 0 ≡ 0 → ⊥)
+      {t′ : Tally} {h′ : Held} {line′ bits′ log′ : List ℕ} (r : PhaseRun b k t h racking line bits log t′ h′ line′ bits′ log′) where
+    waits : (job : Job) → Going job b h₀ racking line₀ bits₀ log₀ → someAway (racksOf job) (h .places) ≡ true
+    waits job g = let y = s .turn job g .ready l in some-waits y (y .bounded .topped .small 65) w
+
+    pub turning-next : Turning b k h₀ racking line₀ bits₀ log₀ t′ h′ line′ bits′ log′
+    turning-next = record { turn = λ job g. turn-next (s .turn job g) (going-fixed g) l r (waits job g) }
+
+    pub turning-more : (job : Job) → Going job b h₀ racking line₀ bits₀ log₀ → t .moves < t′ .moves
+    turning-more job g = turn-more (s .turn job g) (going-fixed g) l r (waits job g)

@@ -4,7 +4,6 @@ ghost use Rattle.racks.specs.Racks.{ofCaps};
 ghost use Rattle.moves.specs.Phases.{budgeted};
 ghost use Rattle.moves.specs.Parts.{held, outcomeOf};
 use answers::Answer;
-use answers::Tally;
 use racks::Job;
 
 pub mod parts;
@@ -20,12 +19,11 @@ pub fn budgeted_moves(
     ensures { λ r. ⌜ outcomeOf r (now (places .exit)) (now (cards .exit)) ≡ budgeted (ofCaps (now (caps .entry))) b (held (now (places .entry)) (now (cards .entry))) k ⌝ }
 {
     let job = Job::of(caps);
-    let mut racks = [0u8; 4096];
-    let number = tables::parts::cards_number(job, b, places, cards, &mut racks);
+    let mut racking = [0u8; 4096];
+    let number = tables::parts::cards_number(job, b, places, cards, &mut racking);
     if number != 0 {
         return Answer::of(number);
     }
-    let moves = parts::move_cards(job, b, k, places, cards, &racks);
-    let tally = Tally::of_moves(moves);
+    let tally = parts::move_cards(job, b, k, places, cards, &racking);
     Answer::done(tally)
 }

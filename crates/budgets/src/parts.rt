@@ -1,148 +1,130 @@
 // The engine that makes moves, phase by phase, as many as an allowance permits.
 ghost use mathlib.Core.Path.{_≡_};
-ghost use Prim.Native.Nat.{_*_, _≤_};
-ghost use lib.ListN.{length};
-ghost use Rattle.counting.specs.Checks.{first};
+ghost use Prim.Native.Nat.{_+_, _*_, _≤_, _<_};
+ghost use lib.ListN.{length, getD};
 ghost use Rattle.racks.specs.Racks.{slots};
-ghost use Rattle.racks.specs.Numbers.{tableChecks};
-ghost use Rattle.racks.specs.Job.{racksOf, Sound};
-ghost use Rattle.tables.specs.Tables.{Filled};
-ghost use Rattle.queues.specs.Queues.{rowsOf};
-ghost use Rattle.moves.specs.Parts.{held, pairsIn, AllSlots};
-ghost use Rattle.budgets.specs.Engine.{noted, Runnable, PhaseRun, Going, Made};
+ghost use Rattle.racks.specs.Legal.{Spared};
+ghost use Rattle.racks.specs.Job.{racksOf};
+ghost use Rattle.tables.specs.Tables.{Open};
+ghost use Rattle.queues.specs.Line.{roomOf};
+ghost use Rattle.moves.specs.Parts.{held, pairsIn};
+ghost use Rattle.budgets.specs.Engine.{Notable, AllNotable, MoveNoted, Noted, Runnable, PhaseRun, Going, Made};
+use answers::Tally;
 use queues::parts::arrivals;
+use queues::parts::line;
 use queues::parts::planning;
 use racks::Job;
 
-// The set of free slots after the first n moves of a list: each source is free now, each target is not.
-pub fn note_moves(pairs: &[u16], n: usize, bits: &mut [u64; 65])
-    requires { ⌜ (2 * n ≤ length (now pairs)) × (length (now bits) ≡ 65) × AllSlots 4096 (pairsIn (now pairs) 0 (2 * n)) ⌝ }
-    ensures { λ _. ⌜ now (bits .exit) ≡ noted (pairsIn (now (pairs .entry)) 0 (2 * n)) (now (bits .entry)) ⌝ }
+// One move noted: its source is free now, and its rack has one free slot more; its target is not.
+fn note_move(
+    from: usize,
+    to: usize,
+    racking: &[u8; 4096],
+    line: &mut [u16; 4416],
+    bits: &mut [u64; 66],
+)
+    requires { ⌜ Notable (now racking) (from, to) × (length (now line) ≡ 4416) × (length (now bits) ≡ 66) × (roomOf (now line) (getD (now racking) from 0) < 65535) ⌝ }
+    ensures { λ _. ⌜ MoveNoted (now (racking .entry)) (from, to) (now (line .entry)) (now (bits .entry)) (now (line .exit)) (now (bits .exit)) ⌝ }
 {
-    let high = 2 * n;
-    let mut i: usize = 0;
+    bits::parts::mark(bits, from);
+    bits::parts::clear(bits, to);
+    let k = line::ROOMS + racking[from] as usize;
+    line[k] = line[k] + 1;
+}
+
+// The moves that stand in the log from `low` up to `high`, noted.
+pub fn note_moves(
+    log: &[u16],
+    low: usize,
+    high: usize,
+    racking: &[u8; 4096],
+    line: &mut [u16; 4416],
+    bits: &mut [u64; 66],
+)
+    requires { ⌜ (low ≤ high) × (high ≤ length (now log)) × AllNotable (now racking) (pairsIn (now log) low high) (now line) (now bits) ⌝ }
+    ensures { λ _. ⌜ Noted (now (racking .entry)) (pairsIn (now (log .entry)) low high) (now (line .entry)) (now (bits .entry)) (now (line .exit)) (now (bits .exit)) ⌝ }
+{
+    let mut i = low;
     while i + 2 <= high {
-        bits::parts::mark(bits, pairs[i] as usize);
-        bits::parts::clear(bits, pairs[i + 1] as usize);
+        note_move(log[i] as usize, log[i + 1] as usize, racking, line, bits);
         i = i + 2;
     }
 }
 
-// One phase of n racks: its pairs are planned, and as many of them carried as are left of the allowance; gives how many.
+// One phase: its pairs are planned behind what the log has, and as many of them carried as are left of k moves; gives the tally with these.
 pub fn run_phase(
-    n: usize,
     b: usize,
-    left: usize,
+    k: usize,
+    tally: Tally,
     places: &mut [u16],
     cards: &mut [u8],
-    queue: &[u16; 4096],
-    heads: &mut [u16; 64],
-    tails: &[u16; 64],
-    firsts: &[u16; 64],
-    ends: &[u16; 64],
-    bits: &mut [u64; 65],
-    waiting: &mut u64,
-    pairs: &mut [u16],
-) -> usize
-    requires { ⌜ Runnable n b (rowsOf (now queue) (now heads) (now tails) (now firsts) (now ends) (now bits) (now waiting)) (held (now places) (now cards)) (now pairs) ⌝ }
-    ensures { λ r. ⌜ PhaseRun n b left (rowsOf (now (queue .entry)) (now (heads .entry)) (now (tails .entry)) (now (firsts .entry)) (now (ends .entry)) (now (bits .entry)) (now (waiting .entry))) (held (now (places .entry)) (now (cards .entry))) (now (pairs .entry)) r (held (now (places .exit)) (now (cards .exit))) (now (pairs .exit)) (now (heads .exit)) (now (bits .exit)) (now (waiting .exit)) ⌝ }
+    racking: &[u8; 4096],
+    line: &mut [u16; 4416],
+    bits: &mut [u64; 66],
+    log: &mut [u16],
+) -> Tally
+    requires { ⌜ Runnable b k tally (held (now places) (now cards)) (now racking) (now line) (now bits) (now log) ⌝ }
+    ensures { λ r. ⌜ PhaseRun b k tally (held (now (places .entry)) (now (cards .entry))) (now (racking .entry)) (now (line .entry)) (now (bits .entry)) (now (log .entry)) r (held (now (places .exit)) (now (cards .exit))) (now (line .exit)) (now (bits .exit)) (now (log .exit)) ⌝ }
 {
-    let planned = planning::plan_phase(n, queue, heads, tails, firsts, ends, bits, waiting, pairs);
-    let made = planning::smaller(planned, left);
-    moves::parts::carry(pairs, 0, 2 * made, places, cards, b);
-    note_moves(pairs, made, bits);
-    made
+    let low = 2 * tally.moves;
+    let planned = planning::plan_phase(line, bits, log, low);
+    let made = planning::smaller(planned, k - tally.moves);
+    let high = low + 2 * made;
+    let after = moves::parts::carry(log, low, high, places, cards, b, tally);
+    note_moves(log, low, high, racking, line, bits);
+    after
 }
 
-// Phases until the allowance is used up or nothing waits; gives how many moves were made.
+// Phases until k moves are made or no rack waits; gives the tally of the moves.
 pub fn run_moves(
     job: Job,
     b: usize,
     k: usize,
     places: &mut [u16],
     cards: &mut [u8],
-    queue: &[u16; 4096],
-    heads: &mut [u16; 64],
-    tails: &[u16; 64],
-    firsts: &[u16; 64],
-    ends: &[u16; 64],
-    bits: &mut [u64; 65],
-    waiting: &mut u64,
-    pairs: &mut [u16],
-) -> usize
-    requires { ⌜ Going job b (rowsOf (now queue) (now heads) (now tails) (now firsts) (now ends) (now bits) (now waiting)) (held (now places) (now cards)) (now pairs) ⌝ }
+    racking: &[u8; 4096],
+    line: &mut [u16; 4416],
+    bits: &mut [u64; 66],
+    log: &mut [u16],
+) -> Tally
+    requires { ⌜ Going job b (held (now places) (now cards)) (now racking) (now line) (now bits) (now log) ⌝ }
     ensures { λ r. ⌜ Made (racksOf job) b k (held (now (places .entry)) (now (cards .entry))) (held (now (places .exit)) (now (cards .exit))) r ⌝ }
 {
-    let mut left = k;
-    while 0 < left {
-        let made = run_phase(
-            job.racks,
-            b,
-            left,
-            places,
-            cards,
-            queue,
-            heads,
-            tails,
-            firsts,
-            ends,
-            bits,
-            waiting,
-            pairs,
-        );
-        if made == 0 {
-            return k - left;
+    let mut tally = Tally::none();
+    while tally.moves < k {
+        if bits[65] == 0 {
+            return tally;
         }
-        left = left - made;
+        tally = run_phase(b, k, tally, places, cards, racking, line, bits, log);
     }
-    k
+    tally
 }
 
-// The queues and free slots of a legal table, then phases with an allowance of k moves; gives how many were made.
+// The queues and free slots of a legal table, then phases with an allowance of k moves; gives the tally of the moves.
 pub fn move_cards(
     job: Job,
     b: usize,
     k: usize,
     places: &mut [u16],
     cards: &mut [u8],
-    table: &[u8; 4096],
-) -> usize
-    requires { ⌜ Sound job × Filled (racksOf job) (now table) × (first (tableChecks (racksOf job) (now places)) ≡ 0) × (length (now cards) ≡ slots (racksOf job) * b) ⌝ }
+    racking: &[u8; 4096],
+) -> Tally
+    requires { ⌜ Open job (now places) (now racking) × Spared (racksOf job) × (length (now cards) ≡ slots (racksOf job) * b) ⌝ }
     ensures { λ r. ⌜ Made (racksOf job) b k (held (now (places .entry)) (now (cards .entry))) (held (now (places .exit)) (now (cards .exit))) r ⌝ }
 {
-    let mut queue = [0u16; 4096];
-    let mut heads = [0u16; 64];
-    let mut tails = [0u16; 64];
-    let mut firsts = [0u16; 64];
-    let mut ends = [0u16; 64];
-    let mut bits = [0u64; 65];
-    let mut waiting: u64 = 0;
-    let mut pairs = [0u16; 8192];
-    arrivals::queue_up(
-        job,
-        places,
-        table,
-        &mut queue,
-        &mut heads,
-        &mut tails,
-        &mut firsts,
-        &mut ends,
-        &mut bits,
-        &mut waiting,
-    );
+    let mut line = [0u16; 4416];
+    let mut bits = [0u64; 66];
+    let mut log = [0u16; 8192];
+    arrivals::queue_up(job, places, racking, &mut line, &mut bits);
     run_moves(
         job,
         b,
         k,
         places,
         cards,
-        &queue,
-        &mut heads,
-        &tails,
-        &firsts,
-        &ends,
+        racking,
+        &mut line,
         &mut bits,
-        &mut waiting,
-        &mut pairs,
+        &mut log,
     )
 }

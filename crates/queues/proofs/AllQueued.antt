@@ -75,6 +75,7 @@ module _ (racks : List Rack) (places racking : List ℕ) (t : Tabled racks place
         rooms-are = λ p l. q .rooms-same p (omega (arith, t .few)) ∙ f .rooms-are p (omega arith);
         lows-are = λ p l. q .lows-same p (omega (arith, t .few)) ∙ f .lows-are p (omega arith);
         others = λ p l m. head-none p l m ∙ sym (tail-none p l m);
+        others-full = λ p l m. q .rooms-same p m ∙ f .rooms-none p (omega arith) m;
       }
     where
       head-is : (p : ℕ) → p < length racks → headOf line p ≡ begins racks p

@@ -7,7 +7,8 @@ use Rattle.counting.specs.Count.{select}
 use Rattle.racks.specs.Racks.{Rack, base, slots}
 use Rattle.racks.specs.Table.{awayTo}
 use Rattle.phases.specs.Plan.{room}
-use Rattle.queues.specs.Queues.{Rows, Bounded, part}
+use Rattle.queues.specs.Line.{LINE}
+use Rattle.queues.specs.Queues.{Rows, rowsOf, Bounded, part}
 use Rattle.queues.specs.Openings.{Shown}
 
 -- each queue has the slots of the cards away to its rack, ascending; the set has the free slots, of which each rack has so many
@@ -20,3 +21,9 @@ pub record Ready (racks : List Rack) (places : List ℕ) (rows : Rows) : Type 0 
   pub rooms-are : (p : ℕ) → p < length racks → rows .rooms p ≡ room racks places p
   pub lows-are : (p : ℕ) → p < length racks → rows .lows p ≡ base racks p
   pub others : (p : ℕ) → length racks ≤ p → p < 64 → rows .heads p ≡ rows .tails p
+  pub others-full : (p : ℕ) → length racks ≤ p → p < 64 → rows .rooms p ≡ 0
+
+-- the line and the words of a call at its start
+pub record Started (racks : List Rack) (places line bits : List ℕ) : Type 0 where
+  pub ready : Ready racks places (rowsOf line bits)
+  pub long : length line ≡ LINE

@@ -1,12 +1,12 @@
-use mathlib.Core.Path.{_≡_, sym, ap, _∙_}
+use borrow.Author.Needs.{needs}
+use mathlib.Core.Path.{_≡_, sym, _∙_}
 use Rattle.counting.specs.Checks.{first}
 use Rattle.racks.specs.Racks.{ofCaps}
 use Rattle.racks.specs.Numbers.{cardChecks}
-use Rattle.answers.specs.Answers.{answer}
+use Rattle.racks.proofs.LegalTable.{legal, spared-caps}
 use Rattle.tables.proofs.Tables.{Open, of-sound, of-cards, open-cards, open-long}
 use Rattle.moves.specs.Parts.{held}
 use Rattle.budgets.proofs.Budgeted.{made-caps, budgeted-refused, budgeted-done}
-use borrow.Author.Needs.{needs}
 use Rattle.budgets.proofs.budgeted_moves.Statement.{statement}
 use Rattle.budgets.proofs.budgeted_moves.Tie as tie
 
@@ -40,25 +40,18 @@ same-length-2 : tie.Need-same-length-2
 same-length-2 c = search needs
 
 returns : tie.Need-returns
-returns c =
-    let s = c .before .before .before .before .before .before .before .before .before .before in
+returns c = let s = c .before .before .before .before .before .before .before .before .before .before in
     budgeted-refused (ofCaps (s .args .caps .now)) (s .args .b) (held (s .args .places .now) (s .args .cards .now)) (s .args .k) _ _ (c .of2 .ensures) (number (c .before .before)) (c .before .if1 .taken)
 
 move-cards-requires : tie.Need-move-cards-requires
-move-cards-requires c κs =
-    let e = c .before .before .before in
+move-cards-requires c κs = let e = c .before .before .before in
     let j = c .before .before .before .before .before .before .before .before in
     let s = j .before .before .before .before in
-    let n = c .before .before .before .before .cards-number in
     let o = opened e in (
-      o .sound,
-      o .filled,
-      o .legal,
-      open-long (s .args .caps .now) (j .of .result) (j .of .ensures) (s .args .places .now) _ (s .args .b) (s .args .cards .now) _ (n .ensures) (e .if1 .left),
+      record { sound = o .sound; legal = legal _ _ (o .legal); filled = o .filled },
+      rw (o .racks) (spared-caps (s .args .caps .now)),
+      open-long (s .args .caps .now) (j .of .result) (j .of .ensures) (s .args .places .now) _ (s .args .b) (s .args .cards .now) _ (e .before .cards-number .ensures) (e .if1 .left),
     )
-
-of-moves-requires : tie.Need-of-moves-requires
-of-moves-requires c κs = search needs
 
 done-requires : tie.Need-done-requires
 done-requires c κs = search needs
@@ -70,13 +63,10 @@ same-length-4 : tie.Need-same-length-4
 same-length-4 c = search needs
 
 returns-2 : tie.Need-returns-2
-returns-2 c =
-    let e = c .before .before .before .before .before .before .before .before .before .before in
-    let s = c .before .before .before .before .before .before .before .before .before .before .before .before .before .before .before .before .before .before .before in
+returns-2 c = let e = c .before .before .before .before .before .before .before .before .before in
+    let s = e .before .before .before .before .before .before .before .before .before in
     let h = held (s .args .places .now) (s .args .cards .now) in
-    let m = c .before .before .before .before .before .before .move-cards in
-    budgeted-done (ofCaps (s .args .caps .now)) (s .args .b) h (s .args .k) _ _ (held _ _) (c .done .ensures ∙ ap (answer 0) (c .before .of-moves .ensures))
-    (made-caps (opened e .racks) (m .ensures)) (sym (e .if1 .left) ∙ number (e .before))
+    budgeted-done (ofCaps (s .args .caps .now)) (s .args .b) h (s .args .k) _ _ (held _ _) (c .done .ensures) (made-caps (opened e .racks) (c .before .before .before .before .before .move-cards .ensures)) (sym (e .if1 .left) ∙ number (e .before))
 
 pub budgeted-moves-spec : {M : Type 1} → statement M
 budgeted-moves-spec =
@@ -89,7 +79,6 @@ budgeted-moves-spec =
     same-length-2
     returns
     move-cards-requires
-    of-moves-requires
     done-requires
     same-length-3
     same-length-4

@@ -9,9 +9,8 @@ ghost use Rattle.racks.specs.Job.{racksOf, Sound};
 ghost use Rattle.tables.specs.Tables.{Open};
 ghost use Rattle.bits.specs.Bits.{turnedOn};
 ghost use Rattle.queues.specs.Line.{LINE, Blank};
-ghost use Rattle.queues.specs.Queues.{rowsOf};
 ghost use Rattle.queues.specs.Queued.{freeFrom, placed, Placed, Queueable, queued, Awaiting};
-ghost use Rattle.queues.specs.Ready.{Ready};
+ghost use Rattle.queues.specs.Ready.{Started};
 use crate::parts::line;
 use crate::parts::openings;
 use racks::Job;
@@ -105,7 +104,7 @@ pub fn queue_up(
     bits: &mut [u64; 66],
 )
     requires { ⌜ Open job (now places) (now racking) × Blank LINE (now line) × Blank 66 (now bits) ⌝ }
-    ensures { λ _. ⌜ Ready (racksOf job) (now (places .entry)) (rowsOf (now (line .exit)) (now (bits .exit))) ⌝ }
+    ensures { λ _. ⌜ Started (racksOf job) (now (places .entry)) (now (line .exit)) (now (bits .exit)) ⌝ }
 {
     place_racks(job, places, line);
     openings::find_free(places, bits);

@@ -1,24 +1,17 @@
 use native.Mathlib.Omega.{arith}
 use borrow.Author.Needs.{needs}
+use Rattle.queues.proofs.Line.{blank-zeros}
 use Rattle.budgets.proofs.parts.move_cards.Statement.{statement}
 use Rattle.budgets.proofs.parts.move_cards.Tie as tie
 
 queue-up-requires : tie.Need-queue-up-requires
-queue-up-requires c κs = search needs
+queue-up-requires c κs = let s = c .before .before .before .before .before in (s .pre .0, blank-zeros 4416, blank-zeros 66)
 
 slice-aggregate-run-moves : tie.Need-slice-aggregate-run-moves
 slice-aggregate-run-moves c = search needs
 
 run-moves-requires : tie.Need-run-moves-requires
-run-moves-requires c κs =
-    let s = c .before .before .before .before .before .before .before .before .before .before .before .before .before .before .before .before .before .before .before .before .before in
-    record {
-      sound = s .pre .0;
-      legal = s .pre .2;
-      ready = c .before .before .before .before .before .before .before .before .before .before .queue-up .ensures;
-      cards-long = s .pre .3;
-      room = omega arith;
-    }
+run-moves-requires c κs = let s = c .before .before .before .before .before .before .before .before .before .before .before in record { opened = s .pre .0; spared = s .pre .1; started = c .before .before .before .before .before .queue-up .ensures; cards-long = s .pre .2; room = omega arith }
 
 same-length : tie.Need-same-length
 same-length c = search needs

@@ -1,87 +1,76 @@
-use borrow.Author.Needs.{needs}
 use native.Mathlib.Omega.{arith}
+use mathlib.Core.Path.{refl}
 use Prim.Native.Nat.{_+_, _-_, _≤_}
-use mathlib.Core.Path.{_≡_, refl, ap, _∙_}
 use lib.ListN.{length, getD}
-use Rattle.bits.proofs.Sets.{length-marked, length-cleared}
-use Rattle.moves.specs.Parts.{pairsIn, Slots, AllSlots}
-use Rattle.moves.proofs.Flat.{slots-first, slots-rest}
-use Rattle.budgets.specs.Engine.{noted}
-use Rattle.budgets.proofs.Shows.{noted-more, noted-done}
+use Rattle.moves.specs.Parts.{pairsIn}
+use Rattle.budgets.specs.Engine.{noted, notedLine, Notable}
+use Rattle.budgets.proofs.PhaseRuns.{Noting, noting-first, noting-room, noting-more, noting-line, noting-bits}
 use Rattle.budgets.proofs.parts.note_moves.Statement.{statement}
 use Rattle.budgets.proofs.parts.note_moves.Tie as tie
 
 abbrev Inv-loop : tie.InvT-loop
-Inv-loop pairs n bits₀ high i₀ bits i =
-    (i ≤ high) × (high ≤ length pairs) × (length bits ≡ 65) × AllSlots 4096 (pairsIn pairs i high) × (noted (pairsIn pairs i high) bits ≡ noted (pairsIn pairs 0 high) bits₀)
+Inv-loop log low high racking line₀ bits₀ i₀ line bits i = (i ≤ high) × (high ≤ length log) × Noting log i high racking line bits (notedLine racking (pairsIn log low high) line₀) (noted (pairsIn log low high) bits₀)
 
 abbrev μ-loop : tie.MeasureT-loop
-μ-loop pairs n bits₀ high i₀ bits i = high - i
+μ-loop log low high racking line₀ bits₀ i₀ line bits i = high - i
 
--- the ends of the next move
-ends : (c : tie.In-loop Inv-loop μ-loop) →
-    let a = c .before .before .before .args in
+-- the next move can be noted
+next : (c : tie.In-loop Inv-loop μ-loop) →
     let l = c .before .loop in
-    Slots 4096 (getD (a .pairs .now) (l .i) 0, getD (a .pairs .now) (l .i + 1) 0)
-ends c = let l = c .before .loop in slots-first (c .before .before .before .args .pairs .now) (l .i) _ (l .inv .1) 4096 (omega arith) (l .inv .3)
-
-mul-high : tie.Need-mul-high Inv-loop μ-loop
-mul-high c = search needs
+    let s = c .before .before .before in
+    Notable (s .args .racking .now) (getD (s .args .log .now) (l .i) 0, getD (s .args .log .now) (l .i + 1) 0)
+next c = let l = c .before .loop in let s = c .before .before .before in noting-first (s .args .log .now) (l .i) (s .args .high) (l .inv .1) (l .inv .2) (omega arith)
 
 loop-holds : tie.Need-loop-holds Inv-loop μ-loop
-loop-holds c = let s = c .before in (omega arith, s .pre .0, s .pre .1, s .pre .2, refl)
+loop-holds c = let s = c .before in (s .pre .0, s .pre .1, record { notable = s .pre .2; line-ends = refl; bits-end = refl })
 
 add-loop : tie.Need-add-loop Inv-loop μ-loop
-add-loop c = search needs
+add-loop c = omega arith
 
-mul-mark : tie.Need-mul-mark Inv-loop μ-loop
-mul-mark c = search needs
+mul-note-move : tie.Need-mul-note-move Inv-loop μ-loop
+mul-note-move c = omega arith
 
-shared-slice-read-mark : tie.Need-shared-slice-read-mark Inv-loop μ-loop
-shared-slice-read-mark c = search needs
+shared-slice-read-note-move : tie.Need-shared-slice-read-note-move Inv-loop μ-loop
+shared-slice-read-note-move c = omega arith
 
-cast-mark : tie.Need-cast-mark Inv-loop μ-loop
-cast-mark c = omega (arith, ends (c .before .before) .from-lt)
+cast-note-move : tie.Need-cast-note-move Inv-loop μ-loop
+cast-note-move c = omega (arith, next (c .before) .from-lt)
 
-mark-requires : tie.Need-mark-requires Inv-loop μ-loop
-mark-requires c κs = (c .before .before .before .loop .inv .2, ends (c .before .before) .from-lt)
+add-note-move : tie.Need-add-note-move Inv-loop μ-loop
+add-note-move c = omega arith
 
-add-clear : tie.Need-add-clear Inv-loop μ-loop
-add-clear c = search needs
+mul-note-move-2 : tie.Need-mul-note-move-2 Inv-loop μ-loop
+mul-note-move-2 c = omega arith
 
-mul-clear : tie.Need-mul-clear Inv-loop μ-loop
-mul-clear c = search needs
+shared-slice-read-note-move-2 : tie.Need-shared-slice-read-note-move-2 Inv-loop μ-loop
+shared-slice-read-note-move-2 c = omega arith
 
-shared-slice-read-clear : tie.Need-shared-slice-read-clear Inv-loop μ-loop
-shared-slice-read-clear c = search needs
+cast-note-move-2 : tie.Need-cast-note-move-2 Inv-loop μ-loop
+cast-note-move-2 c = omega (arith, next (c .before .before) .to-lt)
 
-cast-clear : tie.Need-cast-clear Inv-loop μ-loop
-cast-clear c = omega (arith, ends (c .before .before .before .before .before) .to-lt)
-
-clear-requires : tie.Need-clear-requires Inv-loop μ-loop
-clear-requires c κs = (ap length (c .before .before .mark .ensures) ∙ length-marked _ _ ∙ c .before .before .before .before .before .before .loop .inv .2, ends (c .before .before .before .before .before) .to-lt)
+note-move-requires : tie.Need-note-move-requires Inv-loop μ-loop
+note-move-requires c κs = let l = c .before .before .before .before .before .loop in
+    let s = c .before .before .before .before .before .before .before in
+    (next (c .before .before .before .before), l .inv .2 .notable .line-long, l .inv .2 .notable .bits-long, noting-room (s .args .log .now) (l .i) (s .args .high) (l .inv .1) (l .inv .2) (omega arith))
 
 add-i : tie.Need-add-i Inv-loop μ-loop
-add-i c = search needs
+add-i c = omega arith
 
 loop-less : tie.Need-loop-less Inv-loop μ-loop
-loop-less c = search needs
+loop-less c = omega arith
 
 loop-again : tie.Need-loop-again Inv-loop μ-loop
-loop-again c =
-    let l = c .before .before .before .before .before .before .before .loop in
-    let list = c .before .before .before .before .before .before .before .before .before .args .pairs .now in
-    let m = c .before .before .before .mark .ensures in
-    let e = c .clear .ensures in (
-      omega arith,
-      l .inv .1,
-      ap length e ∙ length-cleared _ _ ∙ ap length m ∙ length-marked _ _ ∙ l .inv .2,
-      slots-rest list (l .i) _ (l .inv .1) 4096 (omega arith) (l .inv .3),
-      rw (e, m) (noted-more list (l .i) _ (l .inv .1) _ _ (omega arith) (l .inv .4)),
-    )
+loop-again c = let l = c .before .before .before .before .before .before .loop in
+    let s = c .before .before .before .before .before .before .before .before in
+    (omega arith, l .inv .1, noting-more (s .args .log .now) (l .i) (s .args .high) (l .inv .1) (l .inv .2) (omega arith) (c .note-move .ensures))
 
 returns : tie.Need-returns Inv-loop μ-loop
-returns c = let l = c .before .loop in noted-done (c .before .before .before .args .pairs .now) (l .i) _ (l .inv .1) _ _ (omega arith) (l .inv .4)
+returns c = let l = c .before .loop in
+    let s = c .before .before .before in
+    record {
+      line-is = noting-line (s .args .log .now) (l .i) (s .args .high) (l .inv .1) (l .inv .2) (omega arith);
+      bits-are = noting-bits (s .args .log .now) (l .i) (s .args .high) (l .inv .1) (l .inv .2) (omega arith);
+    }
 
 pub note-moves-spec : {M : Type 1} → statement M
 note-moves-spec =
@@ -89,18 +78,16 @@ note-moves-spec =
     (tie.spec
     Inv-loop
     μ-loop
-    mul-high
     loop-holds
     add-loop
-    mul-mark
-    shared-slice-read-mark
-    cast-mark
-    mark-requires
-    add-clear
-    mul-clear
-    shared-slice-read-clear
-    cast-clear
-    clear-requires
+    mul-note-move
+    shared-slice-read-note-move
+    cast-note-move
+    add-note-move
+    mul-note-move-2
+    shared-slice-read-note-move-2
+    cast-note-move-2
+    note-move-requires
     add-i
     loop-less
     loop-again

@@ -56,8 +56,11 @@ returns c = let l = c .before .before .before .before .loop in
     let s = c .before .before .before .before .before .before .before .before .before .before in
     let job = s .args .job in
     let e : l .g ≡ slots (racksOf job) = omega (arith, sound-slots job (s .pre .0 .sound)) in
-    queues-ready (racksOf job) (s .args .places .now) (s .args .racking .now) (job-tabled job _ _ (s .pre .0)) (job .racks) _ (l .line) _ _ (sound-racks job (s .pre .0 .sound)) (omega arith)
-    (c .before .before .before .before .before .before .before .place-racks .ensures) (rw e at (l .inv .1)) (c .before .before .before .before .before .find-free .ensures) (c .find-waiting .ensures)
+    record {
+      ready = queues-ready (racksOf job) (s .args .places .now) (s .args .racking .now) (job-tabled job _ _ (s .pre .0)) (job .racks) _ (l .line) _ _ (sound-racks job (s .pre .0 .sound)) (omega arith)
+          (c .before .before .before .before .before .before .before .place-racks .ensures) (rw e at (l .inv .1)) (c .before .before .before .before .before .find-free .ensures) (c .find-waiting .ensures);
+      long = l .inv .1 .long;
+    }
 
 pub queue-up-spec : {M : Type 1} → statement M
 queue-up-spec =
