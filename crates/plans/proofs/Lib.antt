@@ -1,4 +1,3 @@
-pub mod Rooms
 pub mod Owed
 pub mod PairCount
 pub mod Planned

@@ -9,13 +9,12 @@ use native.Mathlib.Decide.{ℕ-discrete}
 use lib.ListN.{length, getD}
 use borrow.Author.Tests.{eq-eqb, ne-eqb}
 use Rattle.counting.specs.Count.{sum}
-use Rattle.counting.proofs.Count.{count-le}
 use Rattle.counting.proofs.Select.{sum-zero, sum-suc, sum-more, sum-mono}
 use Rattle.counting.proofs.Lists.{length-join}
 use Rattle.racks.specs.Racks.{Rack, slots}
-use Rattle.racks.specs.Table.{owes, freeOn}
+use Rattle.racks.specs.Table.{owes}
 use Rattle.phases.specs.Plan.{other, room, planFor, plan}
-use Rattle.plans.specs.Owed.{cell, Owed, Tallied, grant, left, grants}
+use Rattle.plans.specs.Owed.{cell, Owed, grant, left, grants}
 use Rattle.phases.proofs.Grants.{own-owes, owes-all, length-plan-for}
 use Rattle.phases.proofs.Plans.{plan-few}
 
@@ -68,14 +67,14 @@ module _ (owed : List ℕ) (p r : ℕ) where
   left-le (suc i) s e = omega (arith, left-le i (left owed p r i) refl)
 
 -- the table has what racks owe
-module _ (racks : List Rack) (places owed : List ℕ) (o : Owed racks places owed) (p : ℕ) (l : p < length racks) where
+module _ (racks : List Rack) (places owed : List ℕ) (o : Owed racks places owed) (few : length racks ≤ 64) (p : ℕ) (l : p < length racks) where
   -- a grant is the smaller of what there is to give and what is owed; rack p owes itself nothing
   grant-owes : (r i : ℕ) → i < length racks → grant p r i (getD owed (cell i p) 0) ≡ min r (owes racks places i p)
   grant-owes r i h = elim (ℕ-discrete i p) [
     | yes e ↦
         let z : owes racks places i p ≡ 0 = rw e (own-owes racks places p) in
         omega (arith, grant-own p r i (getD owed (cell i p) 0) e)
-    | no d ↦ omega (arith, grant-min p r i (getD owed (cell i p) 0) d, o .counts i p h l)
+    | no d ↦ omega (arith, grant-min p r i (getD owed (cell i p) 0) d, o .counts i p (omega arith) (omega arith))
   ]
 
   -- what is left is what there was less all that is owed
@@ -103,16 +102,11 @@ module _ (racks : List Rack) (places : List ℕ) where
   pub pairs-few : (n : ℕ) → n ≤ length racks → sum n (pairsTo racks places) ≤ slots racks
   pairs-few n l = omega (arith, sum-mono n (length racks) (pairsTo racks places) l, pairs-all, plan-few racks places)
 
-  -- target p, by the counts
-  module _ (owed rooms : List ℕ) (t : Tallied racks places owed rooms) (p : ℕ) (l : p < length racks) where
-    -- its free slots are no more than there are slots
-    pub room-few : getD rooms p 0 ≤ slots racks
-    unfolding room
-    room-few = omega (arith, t .rooms-are .counts p, count-le (slots racks) (freeOn racks places p))
-
+  -- target p, by the counts and its room
+  module _ (owed : List ℕ) (o : Owed racks places owed) (few : length racks ≤ 64) (p : ℕ) (l : p < length racks) (r : ℕ) (er : r ≡ room racks places p) where
     -- its pairs are added to those of the first p
-    pub pairs-more : (n pairs x : ℕ) → n ≡ length racks → pairs ≡ sum p (pairsTo racks places) → x ≡ grants n owed p (getD rooms p 0) → pairs + x ≡ sum (p + 1) (pairsTo racks places)
+    pub pairs-more : (n pairs x : ℕ) → n ≡ length racks → pairs ≡ sum p (pairsTo racks places) → x ≡ grants n owed p r → pairs + x ≡ sum (p + 1) (pairsTo racks places)
     unfolding pairsTo
     pairs-more n pairs x en ep ex =
-        let y : x ≡ pairsTo racks places p = ex ∙ rw (en, t .rooms-are .counts p) (grants-pairs racks places owed (t .owed-are) p l) in
+        let y : x ≡ pairsTo racks places p = ex ∙ rw (en, er) (grants-pairs racks places owed o few p l) in
         omega (arith, sum-more p (pairsTo racks places))

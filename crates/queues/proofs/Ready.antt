@@ -14,7 +14,7 @@ use Rattle.counting.proofs.Pairs.{pairUp-front, pairUp-take}
 use Rattle.racks.specs.Racks.{Rack, slots}
 use Rattle.phases.specs.Plan.{planFor, plan, openSlots}
 use Rattle.phases.proofs.Grants.{plan-for-is}
-use Rattle.queues.specs.Queues.{Rows, part, opens, served, sent, pairsFor, queuedPlan}
+use Rattle.queues.specs.Queues.{Rows, rowsOf, PhasePlanned, Written, part, opens, served, sent, pairsFor, queuedPlan}
 use Rattle.queues.specs.Ready.{Ready}
 use Rattle.queues.proofs.Stretch.{part-take}
 use Rattle.queues.proofs.Pairing.{pairs-none, sent-le}
@@ -65,3 +65,8 @@ module _ (racks : List Rack) (places : List ℕ) (rows : Rows) (r : Ready racks 
       all : queuedPlan (length racks) rows ≡ plan racks places
       all = ap join (table-is (length racks) (planFor racks places) (table (length racks) (pairsFor rows)) [] (length-table _ (pairsFor rows))
           (λ k l. getD-table _ (pairsFor rows) k [] l ∙ ready-for k l))
+
+-- a phase planned from rows that fit the table is the plan of the phase
+pub ready-written : {racks : List Rack} {places line bits log : List ℕ} {at : ℕ} {line′ bits′ log′ : List ℕ} {count : ℕ} → Ready racks places (rowsOf line bits)
+    → PhasePlanned line bits log at line′ bits′ log′ count → Written (plan racks places) log at log′ count
+ready-written {racks} {places} {line} {bits} r p = rw (ready-plan racks places (rowsOf line bits) r) at (p .written)

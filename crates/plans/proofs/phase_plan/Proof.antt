@@ -6,6 +6,7 @@ use Rattle.counting.specs.Lists.{flat}
 use Rattle.racks.specs.Racks.{ofCaps}
 use Rattle.answers.specs.Answers.{answer}
 use Rattle.racks.specs.Job.{racksOf}
+use Rattle.racks.proofs.LegalTable.{legal}
 use Rattle.phases.specs.Plan.{plan}
 use Rattle.phases.proofs.Plans.{plan-few}
 use Rattle.tables.proofs.Tables.{Open, of-sound, of-number, open-table}
@@ -45,7 +46,7 @@ returns c =
     (c .before .before .table-number .ensures .number-is ∙ of-number (s .args .caps .now) (j .of .result) (j .of .ensures) (s .args .places .now)) (c .before .if1 .taken)
 
 count-plan-requires : tie.Need-count-plan-requires
-count-plan-requires c κs = let o = opened (c .before) in (o .sound, o .filled, o .legal)
+count-plan-requires c κs = let o = opened (c .before) in record { sound = o .sound; legal = legal _ _ (o .legal); filled = o .filled }
 
 mul-if2 : tie.Need-mul-if2
 mul-if2 c =
@@ -68,7 +69,7 @@ write-plan-requires c κs =
     let e = c .before .before .before .before .before in
     let s = e .before .before .before .before .before .before .before in
     let o = opened e in
-    (o .sound, o .filled, o .legal, omega (arith, c .before .before .before .count-plan .ensures, c .before .before .if2 .left))
+    (record { sound = o .sound; legal = legal _ _ (o .legal); filled = o .filled }, omega (arith, c .before .before .before .count-plan .ensures, c .before .before .if2 .left))
 
 of-moves-requires : tie.Need-of-moves-requires
 of-moves-requires c κs = search needs

@@ -2,50 +2,34 @@
 ghost use mathlib.Core.Path.{_≡_};
 ghost use Prim.Native.Nat.{_≤_, _<_};
 ghost use lib.ListN.{length};
-ghost use Rattle.counting.specs.Checks.{first};
-ghost use Rattle.racks.specs.Numbers.{tableChecks};
-ghost use Rattle.racks.specs.Job.{racksOf, Sound};
-ghost use Rattle.tables.specs.Tables.{Filled};
+ghost use Rattle.racks.specs.Job.{racksOf};
+ghost use Rattle.tables.specs.Tables.{Open};
 ghost use Rattle.phases.specs.Plan.{plan};
-ghost use Rattle.plans.specs.Owed.{Tallied, Countable, Counted, grant, grants};
+ghost use Rattle.queues.specs.Line.{Blank};
+ghost use Rattle.plans.specs.Owed.{Owed, Countable, owesWith, grant, grants};
+use queues::parts::arrivals;
 use racks::Job;
 
-// Counts slot g: a free slot for its rack, a card that is away for its rack and the one that it is bound for. Each count is stored, with
-// 0 or 1 added: where free and taken slots alternate at random no branch on a slot could be foretold.
-fn count_slot(
-    places: &[u16],
-    table: &[u8; 4096],
-    g: usize,
-    owes: &mut [u16; 4096],
-    rooms: &mut [u16; 64],
-)
-    requires { ⌜ Countable (now places) (now table) g (now owes) (now rooms) ⌝ }
-    ensures { λ _. ⌜ Counted (now (places .entry)) (now (table .entry)) g (now (owes .entry)) (now (rooms .entry)) (now (owes .exit)) (now (rooms .exit)) ⌝ }
+// Counts slot g: a card that is away, for its rack and the one that it is bound for. The count is stored, with 0 or 1 added: where free and
+// taken slots alternate at random no branch on a slot could be foretold.
+fn count_slot(places: &[u16], racking: &[u8; 4096], g: usize, owes: &mut [u16; 4096])
+    requires { ⌜ Countable (now places) (now racking) g (now owes) ⌝ }
+    ensures { λ _. ⌜ now (owes .exit) ≡ owesWith (now (places .entry)) (now (racking .entry)) g (now (owes .entry)) ⌝ }
 {
-    let x = places[g];
-    let from = table[g] as usize;
-    let to = table[tables::parts::named_slot(x, g)] as usize;
+    let from = racking[g] as usize;
+    let to = racking[tables::parts::named_slot(places[g], g)] as usize;
     let k = from * 64 + to;
     owes[k] = owes[k] + tables::parts::one_if(from != to);
-    rooms[from] = rooms[from] + tables::parts::one_if(x == Job::FREE);
 }
 
-// What each rack of a legal table owes each other, and how many free slots each has: one pass over the slots.
-pub fn count_owed(
-    job: Job,
-    places: &[u16],
-    table: &[u8; 4096],
-    owes: &mut [u16; 4096],
-    rooms: &mut [u16; 64],
-)
-    requires { ⌜ Sound job × Filled (racksOf job) (now table) × (first (tableChecks (racksOf job) (now places)) ≡ 0) ⌝ }
-    ensures { λ _. ⌜ Tallied (racksOf job) (now (places .entry)) (now (owes .exit)) (now (rooms .exit)) ⌝ }
+// What each rack of a legal table owes each other, into a table of zeros: one pass over the slots.
+pub fn count_owed(job: Job, places: &[u16], racking: &[u8; 4096], owes: &mut [u16; 4096])
+    requires { ⌜ Open job (now places) (now racking) × Blank 4096 (now owes) ⌝ }
+    ensures { λ _. ⌜ Owed (racksOf job) (now (places .entry)) (now (owes .exit)) ⌝ }
 {
-    *owes = [0; 4096];
-    *rooms = [0; 64];
     let mut g: usize = 0;
     while g < job.slots {
-        count_slot(places, table, g, owes, rooms);
+        count_slot(places, racking, g, owes);
         g = g + 1;
     }
 }
@@ -77,22 +61,20 @@ pub fn grant_rack(n: usize, owes: &[u16; 4096], p: usize, room: usize) -> usize
     room - r
 }
 
-// How many pairs the plan of a legal table has: what each rack grants its sources in turn.
-pub fn count_pairs(
-    job: Job,
-    places: &[u16],
-    table: &[u8; 4096],
-    owes: &mut [u16; 4096],
-    rooms: &mut [u16; 64],
-) -> usize
-    requires { ⌜ Sound job × Filled (racksOf job) (now table) × (first (tableChecks (racksOf job) (now places)) ≡ 0) ⌝ }
+// How many pairs the plan of a legal table has: what each rack, with its free slots, grants its sources in turn.
+pub fn count_pairs(job: Job, places: &[u16], racking: &[u8; 4096], owes: &mut [u16; 4096]) -> usize
+    requires { ⌜ Open job (now places) (now racking) × Blank 4096 (now owes) ⌝ }
     ensures { λ r. ⌜ r ≡ length (plan (racksOf job) (now (places .entry))) ⌝ }
 {
-    count_owed(job, places, table, owes, rooms);
+    count_owed(job, places, racking, owes);
     let mut pairs: usize = 0;
+    let mut low: usize = 0;
     let mut p: usize = 0;
     while p < job.racks {
-        pairs = pairs + grant_rack(job.racks, owes, p, rooms[p] as usize);
+        let high = job.ends[p] as usize;
+        let room = arrivals::count_free(places, low, high) as usize;
+        pairs = pairs + grant_rack(job.racks, owes, p, room);
+        low = high;
         p = p + 1;
     }
     pairs

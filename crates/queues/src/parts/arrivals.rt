@@ -16,7 +16,7 @@ use crate::parts::openings;
 use racks::Job;
 
 // How many of the slots from `low` up to `high` are free.
-fn count_free(places: &[u16], low: usize, high: usize) -> u16
+pub fn count_free(places: &[u16], low: usize, high: usize) -> u16
     requires { ⌜ (low ≤ high) × (high ≤ length (now places)) × (high ≤ 4096) ⌝ }
     ensures { λ r. ⌜ r ≡ count high (freeFrom (now (places .entry)) low) ⌝ }
 {
