@@ -1,30 +1,18 @@
--- The outcome of budgeted moves, refused and done. Assumes nothing.
-use mathlib.Core.Path.{_≡_, refl, subst}
+-- Budgeted moves by a job made from capacities are the capacities'. Assumes nothing.
+use mathlib.Core.Path.{_≡_}
 use mathlib.Core.List.{List}
-use Prim.Native.Nat.{ℕ}
-use Rattle.counting.specs.Checks.{first}
-use Rattle.racks.specs.Racks.{Rack}
-use Rattle.racks.specs.Numbers.{cardChecks}
-use Rattle.answers.specs.Answers.{answer, noCounts}
-use Rattle.answers.specs.declared.Answer.{Answer}
-use Rattle.answers.specs.declared.Tally.{Tally}
+use Prim.Native.Nat.{ℕ, min}
+use Rattle.answers.specs.Answers.{movesOf}
+use Rattle.racks.specs.Racks.{Rack, ofCaps}
+use Rattle.racks.specs.Table.{aways}
+use Rattle.racks.specs.Job.{jobOf}
+use Rattle.racks.specs.declared.Job.{Job}
 use Rattle.moves.specs.Moves.{Held, carried}
 use Rattle.moves.specs.Phases.{budget, budgeted}
-use Rattle.moves.specs.Parts.{outcomeOf}
-use Rattle.moves.proofs.Outcomes.{outcome-refused, outcome-done}
-use Rattle.budgets.specs.Engine.{Made}
+use Rattle.moves.proofs.Outcomes.{outcome-cards}
+use Rattle.budgets.specs.Budgeted.{budgetedBy}
 
--- by the job's racks, and so by the racks of the capacities
-pub made-caps : {r racks : List Rack} {b k : ℕ} {h new : Held} {t : Tally} → r ≡ racks → Made r b k h new t → Made racks b k h new t
-made-caps {b} {k} {h} {new} {t} e m = subst (λ (q : List Rack). Made q b k h new t) e m
-
-module _ (racks : List Rack) (b : ℕ) (h : Held) (k : ℕ) where
-  pub budgeted-refused : (n : ℕ) (r : Answer) → r ≡ answer n noCounts → n ≡ first (cardChecks racks b (h .places) (h .cards)) → (n ≡ 0 → ⊥)
-      → outcomeOf r (h .places) (h .cards) ≡ budgeted racks b h k
-  unfolding budgeted
-  budgeted-refused n r er en f = rw (er, ← en) (outcome-refused n _ _ h f)
-
-  pub budgeted-done : (t : Tally) (r : Answer) (new : Held) → r ≡ answer 0 t → Made racks b k h new t → 0 ≡ first (cardChecks racks b (h .places) (h .cards))
-      → outcomeOf r (new .places) (new .cards) ≡ budgeted racks b h k
-  unfolding budgeted
-  budgeted-done t r new er m en = rw (er, m .tally-is, m .held-is, ← en) (outcome-done 0 _ (carried b (budget racks k (h .places)) h) h refl)
+pub budgeted-by : (caps : List ℕ) (job : Job) → job ≡ jobOf (ofCaps caps) → (b : ℕ) (h : Held) (k : ℕ) → budgetedBy job b h k ≡ budgeted (ofCaps caps) b h k
+unfolding budgetedBy budgeted
+budgeted-by caps job is b h k =
+    outcome-cards caps job is b (λ (r : List Rack). movesOf (min k (aways r (h .places)))) (λ (r : List Rack). carried b (budget r k (h .places)) h) h

@@ -19,11 +19,5 @@ pub fn budgeted_moves(
     ensures { λ r. ⌜ outcomeOf r (now (places .exit)) (now (cards .exit)) ≡ budgeted (ofCaps (now (caps .entry))) b (held (now (places .entry)) (now (cards .entry))) k ⌝ }
 {
     let job = Job::of(caps);
-    let mut racking = [0u8; 4096];
-    let number = tables::parts::cards_number(job, b, places, cards, &mut racking);
-    if number != 0 {
-        return Answer::of(number);
-    }
-    let tally = parts::move_cards(job, b, k, places, cards, &racking);
-    Answer::done(tally)
+    parts::budget_job(job, b, places, cards, k)
 }

@@ -4,11 +4,13 @@ ghost use Prim.Native.Nat.{_+_, _*_, _≤_, _<_};
 ghost use lib.ListN.{length, getD};
 ghost use Rattle.racks.specs.Racks.{slots};
 ghost use Rattle.racks.specs.Legal.{Spared};
-ghost use Rattle.racks.specs.Job.{racksOf};
+ghost use Rattle.racks.specs.Job.{racksOf, FitSpared};
 ghost use Rattle.tables.specs.Tables.{Open};
 ghost use Rattle.queues.specs.Line.{roomOf};
-ghost use Rattle.moves.specs.Parts.{held, pairsIn};
+ghost use Rattle.moves.specs.Parts.{held, outcomeOf, pairsIn};
 ghost use Rattle.budgets.specs.Engine.{Notable, AllNotable, MoveNoted, Noted, Runnable, PhaseRun, Going, Made};
+ghost use Rattle.budgets.specs.Budgeted.{budgetedBy};
+use answers::Answer;
 use answers::Tally;
 use queues::parts::arrivals;
 use queues::parts::line;
@@ -127,4 +129,18 @@ pub fn move_cards(
         &mut bits,
         &mut log,
     )
+}
+
+// Budgeted moves, by the job.
+pub fn budget_job(job: Job, b: usize, places: &mut [u16], cards: &mut [u8], k: usize) -> Answer
+    requires { ⌜ FitSpared job ⌝ }
+    ensures { λ r. ⌜ outcomeOf r (now (places .exit)) (now (cards .exit)) ≡ budgetedBy job b (held (now (places .entry)) (now (cards .entry))) k ⌝ }
+{
+    let mut racking = [0u8; Job::MAX_SLOTS];
+    let number = tables::parts::cards_number(job, b, places, cards, &mut racking);
+    if number != 0 {
+        return Answer::of(number);
+    }
+    let tally = move_cards(job, b, k, places, cards, &racking);
+    Answer::done(tally)
 }

@@ -1,50 +1,47 @@
--- The outcome of the phase plan, refused and done. Assumes nothing.
+-- The phase plan by a job: its number, and that it is the capacities'. Assumes nothing.
 use mathlib.Core.Path.{_≡_, sym, _∙_}
 use mathlib.Core.List.{List, [], _∷_}
 use Prim.Native.Nat.{ℕ, _*_, _≤_, _<_}
 use native.Mathlib.Omega.{arith}
 use lib.ListN.{length}
-use lib.Seq.{sets}
-use borrow.Author.Tests.{ne-eqb, lt-ltb, le-ltb}
+use borrow.Author.Tests.{lt-ltb, le-ltb}
 use Rattle.counting.specs.Lists.{flat}
 use Rattle.counting.specs.Checks.{first}
-use Rattle.counting.proofs.Checks.{first-append, first-past, first-here, first-later, first-none}
+use Rattle.counting.proofs.Checks.{first-here, first-later, first-none, refusal-here, refusal-past}
 use Rattle.counting.proofs.Stores.{length-flat}
-use Rattle.racks.specs.Racks.{Rack}
-use Rattle.racks.specs.Numbers.{tableChecks, tooShort}
-use Rattle.answers.specs.Answers.{noCounts, movesOf, answer, listedOf}
-use Rattle.answers.specs.declared.Answer.{Answer}
-use Rattle.racks.proofs.Legal.{table-clear}
+use Rattle.answers.specs.Answers.{movesOf}
+use Rattle.racks.specs.Racks.{Rack, ofCaps}
+use Rattle.racks.specs.Numbers.{tooShort}
+use Rattle.racks.specs.Job.{racksOf, jobOf}
+use Rattle.racks.specs.declared.Job.{Job}
+use Rattle.tables.specs.Tables.{tableNumber}
+use Rattle.tables.proofs.Tables.{listed-by}
 use Rattle.phases.specs.Plan.{plan, planChecks, planned}
+use Rattle.plans.specs.Planned.{planNumber, plannedBy}
 
-module _ (racks : List Rack) (places lent : List ℕ) where
-  -- a refusal: its number, no counts, and the list as it was lent
-  refused : (n : ℕ) (r : Answer) → r ≡ answer n noCounts → n ≡ first (planChecks racks places lent) → (n ≡ 0 → ⊥) → listedOf r lent ≡ planned racks places lent
-  unfolding planned
-  refused n r er en f = rw (er, ← en, ne-eqb n 0 f)
-
+module _ (job : Job) (places lent : List ℕ) where
   -- refused by the table
-  pub planned-table : (n : ℕ) (r : Answer) → r ≡ answer n noCounts → n ≡ first (tableChecks racks places) → (n ≡ 0 → ⊥) → listedOf r lent ≡ planned racks places lent
-  unfolding planChecks
-  planned-table n r er en f =
-      refused n r er (en ∙ sym (first-append (tableChecks racks places) ((tooShort lent (flat (plan racks places)), 13) ∷ []) (λ z. f (en ∙ z)))) f
+  pub planned-table : (n : ℕ) → n ≡ tableNumber job places → (n ≡ 0 → ⊥) → n ≡ planNumber job places lent
+  unfolding planNumber
+  planned-table n e f = e ∙ sym (refusal-here (tableNumber job places) _ (λ z. f (e ∙ z)))
 
-  module _ (z : first (tableChecks racks places) ≡ 0) where
-    past : first (planChecks racks places lent) ≡ first ((tooShort lent (flat (plan racks places)), 13) ∷ [])
-    unfolding planChecks
-    past = first-past ((tooShort lent (flat (plan racks places)), 13) ∷ []) (table-clear racks places z)
-
+  module _ (z : tableNumber job places ≡ 0) where
     -- refused since the list is too short
-    pub planned-short : (r : Answer) → r ≡ answer 13 noCounts → length lent < 2 * length (plan racks places) → listedOf r lent ≡ planned racks places lent
-    unfolding tooShort
-    planned-short r er l =
-        refused 13 r er (sym (past ∙ first-here _ 13 [] (lt-ltb (length lent) (length (flat (plan racks places))) (omega (arith, length-flat (plan racks places)))))) (λ e. omega arith)
+    pub planned-short : length lent < 2 * length (plan (racksOf job) places) → 13 ≡ planNumber job places lent
+    unfolding planNumber tooShort
+    planned-short l =
+        sym (refusal-past (tableNumber job places) _ z ∙ first-here _ 13 [] (lt-ltb (length lent) (length (flat (plan (racksOf job) places))) (omega (arith, length-flat (plan (racksOf job) places)))))
 
-    -- done: the pairs stand at the front of the list, and are counted
-    pub planned-done : (r : Answer) (n : ℕ) (out : List ℕ) → r ≡ answer 0 (movesOf n) → n ≡ length (plan racks places) → out ≡ sets lent 0 (flat (plan racks places)) → 2 * length (plan racks places) ≤ length lent
-        → listedOf r out ≡ planned racks places lent
-    unfolding planned tooShort
-    planned-done r n out er en eo l =
-        let e : first (planChecks racks places lent) ≡ 0 =
-        past ∙ first-later _ 13 [] (le-ltb (length lent) (length (flat (plan racks places))) (omega (arith, length-flat (plan racks places)))) ∙ first-none in
-        rw (er, en, eo, e)
+    -- not refused
+    pub planned-none : 2 * length (plan (racksOf job) places) ≤ length lent → planNumber job places lent ≡ 0
+    unfolding planNumber tooShort
+    planned-none l =
+        refusal-past (tableNumber job places) _ z
+        ∙ first-later _ 13 [] (le-ltb (length lent) (length (flat (plan (racksOf job) places))) (omega (arith, length-flat (plan (racksOf job) places))))
+        ∙ first-none
+
+-- a job made from capacities gives their plan
+pub planned-by : (caps : List ℕ) (job : Job) → job ≡ jobOf (ofCaps caps) → (places lent : List ℕ) → plannedBy job places lent ≡ planned (ofCaps caps) places lent
+unfolding plannedBy planNumber planned planChecks
+planned-by caps job is places lent =
+    listed-by caps job is places (λ (r : List Rack). (tooShort lent (flat (plan r places)), 13) ∷ []) (λ (r : List Rack). movesOf (length (plan r places))) (λ (r : List Rack). flat (plan r places)) lent

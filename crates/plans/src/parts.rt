@@ -2,10 +2,14 @@
 ghost use mathlib.Core.Path.{_≡_};
 ghost use Prim.Native.Nat.{_*_, _≤_};
 ghost use lib.ListN.{length};
-ghost use Rattle.racks.specs.Job.{racksOf};
+ghost use Rattle.answers.specs.Answers.{listedOf};
+ghost use Rattle.racks.specs.Job.{racksOf, Fit};
 ghost use Rattle.tables.specs.Tables.{Open};
 ghost use Rattle.phases.specs.Plan.{plan};
 ghost use Rattle.queues.specs.Queues.{Written};
+ghost use Rattle.plans.specs.Planned.{plannedBy};
+use answers::Answer;
+use answers::Tally;
 use queues::parts::arrivals;
 use queues::parts::planning;
 use racks::Job;
@@ -30,4 +34,23 @@ pub fn write_plan(job: Job, places: &[u16], racking: &[u8; 4096], lent: &mut [u1
     let mut bits = [0u64; 66];
     arrivals::queue_up(job, places, racking, &mut line, &mut bits);
     planning::plan_phase(&mut line, &mut bits, lent, 0)
+}
+
+// The phase plan, by the job.
+pub fn plan_job(job: Job, places: &[u16], lent: &mut [u16]) -> Answer
+    requires { ⌜ Fit job ⌝ }
+    ensures { λ r. ⌜ listedOf r (now (lent .exit)) ≡ plannedBy job (now (places .entry)) (now (lent .entry)) ⌝ }
+{
+    let mut racking = [0u8; Job::MAX_SLOTS];
+    let number = tables::parts::table_number(job, places, &mut racking);
+    if number != 0 {
+        return Answer::of(number);
+    }
+    let pairs = count_plan(job, places, &racking);
+    if lent.len() < 2 * pairs {
+        return Answer::of(13);
+    }
+    let written = write_plan(job, places, &racking, lent);
+    let tally = Tally::of_moves(written);
+    Answer::done(tally)
 }
