@@ -29,22 +29,30 @@ fn say_lists(caps: &[u16], places: &[u16]) {
     io::write_all(1, b"\n");
 }
 
-// A file from its start, with room for 4 racks and 10 slots.
-fn start(name: &[u8], file: &[u8]) {
+// The job from the start of a file, or that behind its first two numerals.
+fn say_file(file: &[u8], behind: bool, caps: &mut [u16], places: &mut [u16]) {
+    if behind {
+        say_behind_two(file, caps, places);
+        return;
+    }
+    say_from_start(file, caps, places);
+}
+
+// The same, with room for 4 racks and 10 slots, and the lists that were lent.
+fn show(name: &[u8], file: &[u8], behind: bool) {
     let mut caps = [7u16; 4];
     let mut places = [7u16; 10];
     io::write_all(1, name);
-    say_from_start(file, &mut caps, &mut places);
+    say_file(file, behind, &mut caps, &mut places);
     say_lists(&caps, &places);
 }
 
-// Two numerals of a file, and what lies behind them as a job, with the same room.
+fn start(name: &[u8], file: &[u8]) {
+    show(name, file, false);
+}
+
 fn behind(name: &[u8], file: &[u8]) {
-    let mut caps = [7u16; 4];
-    let mut places = [7u16; 10];
-    io::write_all(1, name);
-    say_behind_two(file, &mut caps, &mut places);
-    say_lists(&caps, &places);
+    show(name, file, true);
 }
 
 // The numerals of case 8, each followed by the end of the file, and one after another.
