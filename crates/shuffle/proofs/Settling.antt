@@ -1,12 +1,12 @@
--- The pass that settles the slots: the new table, and free slots zeroed. Assumes nothing.
+-- The slots settled: the new table, the free slots listed, and zeroed. Assumes nothing.
 use mathlib.Core.Path.{_≡_, refl, sym, ap, _∙_}
 use mathlib.Core.Logic.{_≢_}
 use mathlib.Core.Bool.{true, false}
 use mathlib.Core.List.{List}
-use Prim.Native.Nat.{ℕ, _+_, _*_, _≤_, _<_}
+use Prim.Native.Nat.{ℕ, _+_, _*_, _<_}
 use native.Mathlib.Omega.{arith}
 use native.Mathlib.Decide.{ℕ-discrete}
-use lib.ListN.{length, getD, set, length-set}
+use lib.ListN.{length, getD, length-set}
 use lib.Seq.{getD-set-same, getD-set-other}
 use borrow.Author.Tests.{eq-eqb, ne-eqb}
 use Rattle.counting.specs.Lists.{table, join}
@@ -21,7 +21,7 @@ use Rattle.copies.specs.Copies.{source}
 use Rattle.copies.specs.Chains.{Chained}
 use Rattle.copies.proofs.Chains.{seek-hit, seek-found}
 use Rattle.shuffle.specs.Shuffle.{isNamed, lastEntry, lastCard}
-use Rattle.shuffle.specs.Hands.{entryBy, zeroedBy, SlotSettled, AllSettled}
+use Rattle.shuffle.specs.Hands.{entryBy, SlotSettled, FreeListed, TableSettled, AllBelow, Zeroed, AllSettled}
 use Rattle.shuffle.proofs.Settled.{last-named, last-free, card-named, card-free, length-last, length-slots, block-slots}
 
 -- no card is bound for a slot exactly where no entry names it
@@ -38,78 +38,131 @@ module _ {places : List ℕ} (ok : Chained places) (d : ℕ) where
   unfolding isNamed source
   named-is q = let h = seek-hit FREE (names places d) (length places) q in some-hit (length places) (names places d) (source places d) (h .1) (h .0)
 
--- the first d slots are settled
-pub record SettledTo (b : ℕ) (places cards : List ℕ) (d : ℕ) (places′ cards′ : List ℕ) : Type 0 where
+-- the entry of a settled slot
+pub entry-free : (s d : ℕ) → s ≡ FREE → FREE ≡ entryBy s d
+unfolding entryBy
+entry-free s d e = rw (eq-eqb s FREE e)
+
+-- it names itself
+pub entry-named : (s d : ℕ) → s ≢ FREE → d ≡ entryBy s d
+unfolding entryBy
+entry-named s d q = rw (ne-eqb s FREE q)
+
+-- the first d slots are settled, and those of them that are free listed
+pub record SettledTo (places : List ℕ) (d : ℕ) (places′ frees : List ℕ) (n : ℕ) : Type 0 where
   pub entries : (g : ℕ) → g < d → getD places′ g 0 ≡ lastEntry places g
-  pub bytes : (g : ℕ) → g < d → block b g cards′ ≡ lastCard b places cards g
-  pub rest : (g : ℕ) → d ≤ g → block b g cards′ ≡ block b g cards
+  pub listed : FreeListed places d frees n
   pub size : length places′ ≡ length places
-  pub long : length cards′ ≡ length cards
 
--- no slot is settled yet
-pub settled-none : (b : ℕ) (places cards : List ℕ) → SettledTo b places cards 0 places cards
-settled-none b places cards = record { entries = λ g l. absurd (omega arith); bytes = λ g l. absurd (omega arith); rest = λ g l. refl; size = refl; long = refl }
+-- none is
+pub settled-none : (places frees : List ℕ) → length frees ≡ 4096 → SettledTo places 0 places frees 0
+settled-none places frees l = record {
+  entries = λ g l. absurd (omega arith);
+  listed = record { hits = λ i l. absurd (omega arith); all = λ g l. absurd (omega arith); few = omega arith; long = l };
+  size = refl;
+}
 
--- one slot, by the slot whose card is bound for it
-module _ (b s d : ℕ) (places cards : List ℕ) where
-  -- none: it is free and zeroed
-  pub slot-free : s ≡ FREE → (places′ cards′ : List ℕ) → places′ ≡ set places d FREE → cards′ ≡ putBlock b d (blank b) cards → SlotSettled b s d places cards places′ cards′
-  unfolding entryBy zeroedBy
-  slot-free e places′ cards′ p c = record { entry = p ∙ rw (eq-eqb s FREE e); bytes = c ∙ rw (eq-eqb s FREE e) }
+module _ {places : List ℕ} (ok : Chained places) (d : ℕ) (low : d < length places) (n : ℕ) (places₁ frees₁ : List ℕ) (t : SettledTo places d places₁ frees₁ n) (s : ℕ) (from : s ≡ source places d) (count : ℕ) (places₂ frees₂ : List ℕ) (w : SlotSettled s d n places₁ frees₁ count places₂ frees₂) where
+  room : n < length frees₁
+  room = omega (arith, t .listed .few, t .listed .long, ok .small)
 
-  -- one: it names itself
-  pub slot-named : s ≢ FREE → SlotSettled b s d places cards (set places d d) cards
-  unfolding entryBy zeroedBy
-  slot-named q = record { entry = rw (ne-eqb s FREE q); bytes = rw (ne-eqb s FREE q) }
+  last-is : entryBy s d ≡ lastEntry places d
+  last-is = elim (ℕ-discrete s FREE) [
+    | yes e ↦ sym (entry-free s d e) ∙ sym (last-free places d (unnamed ok d (sym from ∙ e)))
+    | no q ↦ sym (entry-named s d q) ∙ sym (last-named places d (named-is ok d (λ e. q (from ∙ e))))
+  ]
 
-module _ (b : ℕ) {places : List ℕ} (cards : List ℕ) (ok : Chained places) (sized : length cards ≡ length places * b) where
-  module _ (d : ℕ) (low : d < length places) (places₁ cards₁ places₂ cards₂ : List ℕ) (t : SettledTo b places cards d places₁ cards₁) where
-    entries-on : (x : ℕ) → x ≡ lastEntry places d → places₂ ≡ set places₁ d x → (g : ℕ) → g < d + 1 → getD places₂ g 0 ≡ lastEntry places g
-    entries-on x e p g l = elim (ℕ-discrete g d) [
-      | yes i ↦ rw (p, i) (getD-set-same places₁ d x 0 (omega (arith, t .size)) ∙ e)
-      | no i ↦ rw p (getD-set-other places₁ d g x 0 i ∙ t .entries g (omega arith))
-    ]
+  before : (i : ℕ) → i < n → getD frees₂ i 0 ≡ getD frees₁ i 0
+  before i l = ap (λ (f : List ℕ). getD f i 0) (w .slot) ∙ getD-set-other frees₁ n i d 0 (λ e. omega arith)
 
-    sized₁ : length cards₁ ≡ length places * b
-    sized₁ = t .long ∙ sized
+  here : getD frees₂ n 0 ≡ d
+  here = ap (λ (f : List ℕ). getD f n 0) (w .slot) ∙ getD-set-same frees₁ n d 0 room
 
-    more-free : isNamed places d ≡ false → places₂ ≡ set places₁ d FREE → cards₂ ≡ putBlock b d (blank b) cards₁ → SettledTo b places cards (d + 1) places₂ cards₂
-    more-free n p c = record {
-      entries = entries-on FREE (sym (last-free places d n)) p;
-      bytes = λ g l. elim (ℕ-discrete g d) [
-        | yes i ↦ rw (c, i) (block-same b (length places) d (blank b) cards₁ sized₁ low (length-blank b) ∙ sym (card-free places d b cards n))
-        | no i ↦ rw c (block-other b g d (blank b) cards₁ (length-blank b) i ∙ t .bytes g (omega arith))
-      ];
-      rest = λ g l. rw c (block-other b g d (blank b) cards₁ (length-blank b) (λ i. omega arith) ∙ t .rest g (omega arith));
-      size = ap length p ∙ length-set places₁ d FREE ∙ t .size;
-      long = ap length c ∙ length-put b d (blank b) cards₁ ∙ t .long;
-    }
+  long₂ : length frees₂ ≡ 4096
+  long₂ = ap length (w .slot) ∙ length-set frees₁ n d ∙ t .listed .long
 
-    more-named : isNamed places d ≡ true → places₂ ≡ set places₁ d d → cards₂ ≡ cards₁ → SettledTo b places cards (d + 1) places₂ cards₂
-    more-named n p c = record {
-      entries = entries-on d (sym (last-named places d n)) p;
-      bytes = λ g l. elim (ℕ-discrete g d) [
-        | yes i ↦ rw (c, i) (t .rest d (omega arith) ∙ sym (card-named places d b cards n))
-        | no i ↦ rw c (t .bytes g (omega arith))
-      ];
-      rest = λ g l. rw c (t .rest g (omega arith));
-      size = ap length p ∙ length-set places₁ d d ∙ t .size;
-      long = ap length c ∙ t .long;
-    }
+  listed-free : s ≡ FREE → FreeListed places (d + 1) frees₂ count
+  listed-free e =
+      let c : count ≡ n + 1 = w .count-is ∙ rw (eq-eqb s FREE e) in
+      record {
+        hits = λ i l. elim (ℕ-discrete i n) [
+          | yes j ↦ rw (j, here) (omega arith, sym from ∙ e)
+          | no j ↦ let m : i < n = omega arith in let h = t .listed .hits i m in rw (before i m) (omega (arith, h .0), h .1)
+        ];
+        all = λ g l f. elim (ℕ-discrete g d) [
+          | yes j ↦ (n, omega arith, here ∙ sym j)
+          | no j ↦ let h = t .listed .all g (omega arith) f in (h .0, omega (arith, h .1), before (h .0) (h .1) ∙ h .2)
+        ];
+        few = omega (arith, t .listed .few);
+        long = long₂;
+      }
 
-    -- one slot more
-    pub settled-more : (s : ℕ) → s ≡ source places d → SlotSettled b s d places₁ cards₁ places₂ cards₂ → SettledTo b places cards (d + 1) places₂ cards₂
-    unfolding entryBy zeroedBy
-    settled-more s e w = elim (ℕ-discrete s FREE) [
-      | yes f ↦ more-free (unnamed ok d (sym e ∙ f)) (w .entry ∙ rw (eq-eqb s FREE f)) (w .bytes ∙ rw (eq-eqb s FREE f))
-      | no q ↦ more-named (named-is ok d (λ u. q (e ∙ u))) (w .entry ∙ rw (ne-eqb s FREE q)) (w .bytes ∙ rw (ne-eqb s FREE q))
-    ]
+  listed-named : s ≢ FREE → FreeListed places (d + 1) frees₂ count
+  listed-named q =
+      let c : count ≡ n + 0 = w .count-is ∙ rw (ne-eqb s FREE q) in
+      record {
+        hits = λ i l. let m : i < n = omega arith in let h = t .listed .hits i m in rw (before i m) (omega (arith, h .0), h .1);
+        all = λ g l f. elim (ℕ-discrete g d) [
+          | yes j ↦ absurd (q (from ∙ ap (source places) (sym j) ∙ f))
+          | no j ↦ let h = t .listed .all g (omega arith) f in (h .0, omega (arith, h .1), before (h .0) (h .1) ∙ h .2)
+        ];
+        few = omega (arith, t .listed .few);
+        long = long₂;
+      }
 
-  -- all slots
-  pub settled-all : (d : ℕ) (places′ cards′ : List ℕ) → d ≡ length places → SettledTo b places cards d places′ cards′ → AllSettled b places cards places′ cards′
-  settled-all d places′ cards′ e t = record {
-    entries = table-is (length places) (lastEntry places) places′ 0 (t .size) (λ k l. t .entries k (omega arith));
-    bytes = blocks-ext b (length places) cards′ (join (table (length places) (lastCard b places cards))) (t .long ∙ sized)
-        (length-slots b (lastCard b places cards) (length places) (length-last b places cards sized))
-        (λ g l. t .bytes g (omega arith) ∙ sym (block-slots b (lastCard b places cards) (length places) g (length-last b places cards sized) l));
+  -- one slot more
+  pub settled-more : SettledTo places (d + 1) places₂ frees₂ count
+  settled-more = record {
+    entries = λ g l. elim (ℕ-discrete g d) [
+      | yes j ↦ rw (w .entry, j) (getD-set-same places₁ d (entryBy s d) 0 (omega (arith, t .size)) ∙ last-is)
+      | no j ↦ rw (w .entry) (getD-set-other places₁ d g (entryBy s d) 0 j ∙ t .entries g (omega arith))
+    ];
+    listed = elim (ℕ-discrete s FREE) [ yes e ↦ listed-free e | no q ↦ listed-named q ];
+    size = ap length (w .entry) ∙ length-set places₁ d (entryBy s d) ∙ t .size;
   }
+
+-- all slots
+pub settled-all : (places : List ℕ) (d : ℕ) (places′ frees : List ℕ) (n : ℕ) → d ≡ length places → SettledTo places d places′ frees n → TableSettled places places′ frees n
+settled-all places d places′ frees n e t = record {
+  entries = table-is (length places) (lastEntry places) places′ 0 (t .size) (λ k l. t .entries k (omega arith));
+  listed = rw e at (t .listed);
+  size = t .size;
+}
+
+-- no slot is zeroed yet
+pub zeroed-none : (b : ℕ) (frees cards : List ℕ) → Zeroed b frees 0 cards cards
+zeroed-none b frees cards = record { done = λ i l. absurd (omega arith); rest = λ g l. refl; size = refl }
+
+-- one slot more
+pub zeroed-more : (b S : ℕ) (frees : List ℕ) (n : ℕ) (cards cards₁ cards₂ : List ℕ) → Zeroed b frees n cards cards₁ → (f : ℕ) → f ≡ getD frees n 0 → f < S → length cards ≡ S * b → cards₂ ≡ putBlock b f (blank b) cards₁ → Zeroed b frees (n + 1) cards cards₂
+zeroed-more b S frees n cards cards₁ cards₂ z f e l sized p = record {
+  done = λ i m. elim (ℕ-discrete (getD frees i 0) f) [
+    | yes j ↦ rw (p, j) (block-same b S f (blank b) cards₁ (z .size ∙ sized) l (length-blank b))
+    | no j ↦ rw p (block-other b (getD frees i 0) f (blank b) cards₁ (length-blank b) j ∙ z .done i (other i m j))
+  ];
+  rest = λ g h. rw p (block-other b g f (blank b) cards₁ (length-blank b) (λ j. h n (omega arith) (sym e ∙ sym j)) ∙ z .rest g (λ i m. h i (omega arith)));
+  size = ap length p ∙ length-put b f (blank b) cards₁ ∙ z .size;
+}
+  where
+    other : (i : ℕ) → i < n + 1 → getD frees i 0 ≢ f → i < n
+    other i m j = elim (ℕ-discrete i n) [ yes k ↦ absurd (j (ap (λ (x : ℕ). getD frees x 0) k ∙ sym e)) | no k ↦ omega arith ]
+
+-- the free slots are slots of the new table too
+pub listed-low : {places : List ℕ} (places′ frees : List ℕ) (n : ℕ) → TableSettled places places′ frees n → AllBelow (length places′) n frees
+listed-low places′ frees n t i l = rw (t .size) (t .listed .hits i l .0)
+
+-- the table and the cards at the end
+pub all-settled : (b : ℕ) {places : List ℕ} (cards : List ℕ) → Chained places → length cards ≡ length places * b → (n : ℕ) (places′ frees cards′ : List ℕ) → TableSettled places places′ frees n → Zeroed b frees n cards cards′
+    → AllSettled b places cards places′ cards′
+all-settled b {places} cards ok sized n places′ frees cards′ t z = record {
+  entries = t .entries;
+  bytes = blocks-ext b (length places) cards′ (join (table (length places) (lastCard b places cards))) (z .size ∙ sized)
+      (length-slots b (lastCard b places cards) (length places) (length-last b places cards sized))
+      (λ g l. each-slot g l ∙ sym (block-slots b (lastCard b places cards) (length places) g (length-last b places cards sized) l));
+}
+  where
+    each-slot : (g : ℕ) → g < length places → block b g cards′ ≡ lastCard b places cards g
+    each-slot g l = elim (ℕ-discrete (source places g) FREE) [
+      | yes e ↦ let h = t .listed .all g l e in rw (h .2) at (z .done (h .0) (h .1)) ∙ sym (card-free places g b cards (unnamed ok g e))
+      | no q ↦ z .rest g (λ i m j. q (rw j at (t .listed .hits i m .1))) ∙ sym (card-named places g b cards (named-is ok g q))
+    ]

@@ -6,7 +6,7 @@ ghost use Rattle.racks.specs.Job.{Fit};
 ghost use Rattle.moves.specs.Parts.{held, outcomeOf};
 ghost use Rattle.copies.specs.Chains.{Chained};
 ghost use Rattle.copies.specs.Writes.{Sources, Unmarked};
-ghost use Rattle.shuffle.specs.Hands.{AllBrought, SlotSettled, AllSettled, Shuffled};
+ghost use Rattle.shuffle.specs.Hands.{AllBrought, entryBy, SlotSettled, TableSettled, AllBelow, Zeroed, AllSettled, Shuffled};
 ghost use Rattle.shuffle.specs.Shuffled.{shuffledBy};
 use answers::Answer;
 use answers::Tally;
@@ -37,29 +37,69 @@ pub fn bring_factors(
     sum
 }
 
-// Slot d at the end: it names itself where a card was bound for it, else it is free and zeroed.
-pub fn settle_slot(places: &mut [u16], cards: &mut [u8], b: usize, d: usize, source: u16)
-    requires { ⌜ (d < length (now places)) × (d < 4096) × (d * b + b ≤ length (now cards)) ⌝ }
-    ensures { λ _. ⌜ SlotSettled b source d (now (places .entry)) (now (cards .entry)) (now (places .exit)) (now (cards .exit)) ⌝ }
+// Slot d's entry at the end: it names itself where a card was bound for it, else it is free.
+pub fn entry_by(source: u16, d: usize) -> u16
+    requires { ⌜ d < 4096 ⌝ }
+    ensures { λ r. ⌜ r ≡ entryBy source d ⌝ }
 {
     if source == Job::FREE {
-        places[d] = Job::FREE;
-        moves::parts::blank_card(cards, b, d);
-        return;
+        return Job::FREE;
     }
-    places[d] = d as u16;
+    d as u16
 }
 
-// The new table, and every free slot zeroed, in one pass.
+// Slot d at the end: its entry, and its number behind the n free slots before it, where it is kept if it is free. So there is no branch, which
+// could not be foretold where free and taken slots alternate at random.
+pub fn settle_slot(
+    places: &mut [u16],
+    frees: &mut [u16; 4096],
+    d: usize,
+    n: usize,
+    source: u16,
+) -> usize
+    requires { ⌜ (d < length (now places)) × (d < 4096) × (n ≤ d) × (length (now frees) ≡ 4096) ⌝ }
+    ensures { λ r. ⌜ SlotSettled source d n (now (places .entry)) (now (frees .entry)) r (now (places .exit)) (now (frees .exit)) ⌝ }
+{
+    places[d] = entry_by(source, d);
+    frees[n] = d as u16;
+    n + tables::parts::one_if(source == Job::FREE) as usize
+}
+
+// The new table, and the slots that are free in it from the front of `frees`; how many they are.
+pub fn settle_table(sources: &[u16; 4097], places: &mut [u16], frees: &mut [u16; 4096]) -> usize
+    requires { ⌜ Chained (now places) × Sources (now places) (now sources) × (length (now frees) ≡ 4096) ⌝ }
+    ensures { λ r. ⌜ TableSettled (now (places .entry)) (now (places .exit)) (now (frees .exit)) r ⌝ }
+{
+    let mut n: usize = 0;
+    let mut d: usize = 0;
+    while d < places.len() {
+        n = settle_slot(places, frees, d, n, sources[d]);
+        d = d + 1;
+    }
+    n
+}
+
+// The slots that are listed, zeroed.
+pub fn zero_slots(frees: &[u16; 4096], n: usize, cards: &mut [u8], b: usize, slots: usize)
+    requires { ⌜ AllBelow slots n (now frees) × (n ≤ 4096) × (length (now cards) ≡ slots * b) ⌝ }
+    ensures { λ _. ⌜ Zeroed b (now (frees .entry)) n (now (cards .entry)) (now (cards .exit)) ⌝ }
+{
+    let mut i: usize = 0;
+    while i < n {
+        let slot = copies::parts::wide(frees[i]);
+        moves::parts::blank_card(cards, b, slot);
+        i = i + 1;
+    }
+}
+
+// The new table, and every free slot zeroed.
 pub fn settle_slots(sources: &[u16; 4097], places: &mut [u16], cards: &mut [u8], b: usize)
     requires { ⌜ Chained (now places) × Sources (now places) (now sources) × (length (now cards) ≡ length (now places) * b) ⌝ }
     ensures { λ _. ⌜ AllSettled b (now (places .entry)) (now (cards .entry)) (now (places .exit)) (now (cards .exit)) ⌝ }
 {
-    let mut d: usize = 0;
-    while d < places.len() {
-        settle_slot(places, cards, b, d, sources[d]);
-        d = d + 1;
-    }
+    let mut frees = [0u16; 4096];
+    let n = settle_table(sources, places, &mut frees);
+    zero_slots(&frees, n, cards, b, places.len());
 }
 
 // The shuffle of an accepted table with nothing away; the tally with the copies made.

@@ -12,15 +12,22 @@ use crate::parts::arrows;
 use crate::parts::words;
 use answers::Tally;
 
-// A phase line, of the pairs that stand at the front of a list.
-pub fn put_phase(out: &mut [u8], at: usize, k: usize, pairs: &[u16], high: usize) -> usize
-    requires { ⌜ (high ≤ length (now pairs)) × Room (phaseLine k (pairsIn (now pairs) 0 high)) at (now out) ⌝ }
-    ensures { λ r. ⌜ Wrote (phaseLine k (pairsIn (now (pairs .entry)) 0 high)) (now (out .entry)) at (now (out .exit)) r ⌝ }
+// A phase line, of the pairs that stand in a list from index `low` up to `high`.
+pub fn put_phase(
+    out: &mut [u8],
+    at: usize,
+    k: usize,
+    pairs: &[u16],
+    low: usize,
+    high: usize,
+) -> usize
+    requires { ⌜ (low ≤ high) × (high ≤ length (now pairs)) × Room (phaseLine k (pairsIn (now pairs) low high)) at (now out) ⌝ }
+    ensures { λ r. ⌜ Wrote (phaseLine k (pairsIn (now (pairs .entry)) low high)) (now (out .entry)) at (now (out .exit)) r ⌝ }
 {
     let mut next = words::put_text(out, at, b"phase ");
     next = words::put_decimal(out, next, k);
     next = words::put_byte(out, next, b':');
-    next = arrows::put_arrows(out, next, pairs, 0, high);
+    next = arrows::put_arrows(out, next, pairs, low, high);
     words::put_byte(out, next, b'\n')
 }
 

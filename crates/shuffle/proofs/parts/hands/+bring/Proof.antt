@@ -100,7 +100,9 @@ bring-copy-card-requires t c κs =
     let e = c .before .before .before .before .before .wide .ensures ∙ sym (next-is (s .args .places .now .now) (s .args .x) (inside-here (s .args .places .now .now) (s .args .left) (s .args .x) (s .pre .1 .0))) in
     let i = inside-next (s .args .places .now .now) (s .args .left) (s .args .x) (c .before .before .before .before .before .wide .result) (omega arith) e (s .pre .1 .0) in
     let w = c .before .before .before .bring .ensures .1 in
-    (slid-within (s .args .b) _ (s .args .x) _ _ _ w (s .pre .1 .3) (inside-here (s .args .places .now .now) (s .args .left) (s .args .x) (s .pre .1 .0)), slid-within (s .args .b) _ (c .before .before .before .before .before .wide .result) _ _ _ w (s .pre .1 .3) (inside-here (s .args .places .now .now) (s .args .left - 1) (c .before .before .before .before .before .wide .result) i))
+    let f = slid-within (s .args .b) _ (s .args .x) _ _ _ w (s .pre .1 .3) (inside-here (s .args .places .now .now) (s .args .left) (s .args .x) (s .pre .1 .0)) in
+    let t = slid-within (s .args .b) _ (c .before .before .before .before .before .wide .result) _ _ _ w (s .pre .1 .3) (inside-here (s .args .places .now .now) (s .args .left - 1) (c .before .before .before .before .before .wide .result) i) in
+    (omega (arith, f, t), omega (arith, f, t))
 
 bring-add-result : (t : ℕ) → bring-lts.Need-add-result (
   wide-reads.Asked,

@@ -11,19 +11,19 @@ slice-aggregate-put-text : tie.Need-slice-aggregate-put-text
 slice-aggregate-put-text c = search needs
 
 put-text-requires : tie.Need-put-text-requires
-put-text-requires c κs = let s = c .before .before .before .before in omega (arith, length-phase (s .args .k) (pairsIn (s .args .pairs .now) 0 (s .args .high)))
+put-text-requires c κs = let s = c .before .before .before .before in omega (arith, length-phase (s .args .k) (pairsIn (s .args .pairs .now) (s .args .low) (s .args .high)))
 
 put-decimal-requires : tie.Need-put-decimal-requires
-put-decimal-requires c κs = let s = c .before .before .before .before .before .before .before .before in omega (arith, length-phase (s .args .k) (pairsIn (s .args .pairs .now) 0 (s .args .high)))
+put-decimal-requires c κs = let s = c .before .before .before .before .before .before .before .before in omega (arith, length-phase (s .args .k) (pairsIn (s .args .pairs .now) (s .args .low) (s .args .high)))
 
 put-byte-requires : tie.Need-put-byte-requires
-put-byte-requires c κs = let s = c .before .before .before .before .before .before .before .before .before .before .before .before in omega (arith, length-phase (s .args .k) (pairsIn (s .args .pairs .now) 0 (s .args .high)))
+put-byte-requires c κs = let s = c .before .before .before .before .before .before .before .before .before .before .before .before in omega (arith, length-phase (s .args .k) (pairsIn (s .args .pairs .now) (s .args .low) (s .args .high)))
 
 put-arrows-requires : tie.Need-put-arrows-requires
-put-arrows-requires c κs = let s = c .before .before .before .before .before .before .before .before .before .before .before .before .before .before .before .before in (omega arith, s .pre .0, omega (arith, length-phase (s .args .k) (pairsIn (s .args .pairs .now) 0 (s .args .high))))
+put-arrows-requires c κs = let s = c .before .before .before .before .before .before .before .before .before .before .before .before .before .before .before .before in (s .pre .0, s .pre .1, omega (arith, length-phase (s .args .k) (pairsIn (s .args .pairs .now) (s .args .low) (s .args .high))))
 
 put-byte-requires-2 : tie.Need-put-byte-requires-2
-put-byte-requires-2 c κs = let s = c .before .before .before .before .before .before .before .before .before .before .before .before .before .before .before .before .before .before .before .before in omega (arith, length-phase (s .args .k) (pairsIn (s .args .pairs .now) 0 (s .args .high)))
+put-byte-requires-2 c κs = let s = c .before .before .before .before .before .before .before .before .before .before .before .before .before .before .before .before .before .before .before .before in omega (arith, length-phase (s .args .k) (pairsIn (s .args .pairs .now) (s .args .low) (s .args .high)))
 
 same-length : tie.Need-same-length
 same-length c = search needs
