@@ -28,7 +28,7 @@ use Rattle.runs.specs.Gathered.{phaseCounts, PhasesMade, Ran}
 use Rattle.runs.proofs.Gathering.{legal-gathered, long-gathered}
 
 module _ (racks : List Rack) (b : ℕ) (h : Held) (legal : Legal racks (h .places)) (spared : Spared racks) (small : slots racks ≤ 4096) (long : length (h .cards) ≡ slots racks * b) where
-  module _ (h₁ : Held) (t : Tally) (p : PhasesMade racks b h h₁ t) where
+  module _ (h₁ : Held) (t : Tally) (log : List ℕ) (p : PhasesMade racks b h h₁ t log) where
     legal-after : Legal racks (h₁ .places)
     legal-after = rw (p .held-is) (legal-gathered racks b h legal spared)
 

@@ -1,7 +1,7 @@
-pub mod Paying
 pub mod Owing
-pub mod Rounds
+pub mod Paying
 pub mod Gathering
+pub mod Rounds
+pub mod Gathers
 pub mod Ending
-pub mod Totals
 pub mod WholeRun

@@ -40,7 +40,7 @@ module _ {racks : List Rack} (table : List ℕ) (filled : Filled racks table) (f
     cell-is = rw (filled (m .0) (a .from-lt), filled (m .1) (a .to-lt))
 
     cell-owes : getD counts (cellOf table m) 0 ≡ owes racks places (rackOf racks (m .0)) (rackOf racks (m .1))
-    cell-owes = rw cell-is (o .counts _ _ from-lt to-lt)
+    cell-owes = rw cell-is (o .counts _ _ (omega (arith, from-lt)) (omega (arith, to-lt)))
 
     -- it is owed
     owed-first : 0 < getD counts (cellOf table m) 0
@@ -100,3 +100,7 @@ module _ {racks : List Rack} {start : List ℕ} {made : List Pair} (l : Legal ra
   -- so counts of what racks owe then are counts of what they await
   pub awaited-is : {counts : List ℕ} → Owed racks (carriedPlaces made start) counts → Awaited racks start made counts
   awaited-is o = record { counts = λ i p li lp. o .counts i p li lp ∙ sym (awaits-owes i p); long = o .long }
+
+  -- and counts of what they await are counts of what they owe then
+  pub awaited-owed : {counts : List ℕ} → Awaited racks start made counts → Owed racks (carriedPlaces made start) counts
+  awaited-owed a = record { counts = λ i p li lp. a .counts i p li lp ∙ awaits-owes i p; long = a .long }

@@ -1,18 +1,14 @@
 -- The moves of a list of numbers, paid for move by move. Assumes nothing.
-use mathlib.Core.Path.{_≡_, ap}
+use mathlib.Core.Path.{_≡_}
 use mathlib.Core.List.{List, _∷_}
 use Prim.Native.Nat.{ℕ, _+_, _-_, _≤_, _<_}
-use native.Mathlib.Nat.{add-zero}
 use native.Mathlib.Omega.{arith}
 use lib.ListN.{length, getD, set, length-set}
 use Rattle.counting.specs.Lists.{Pair}
-use Rattle.answers.specs.Answers.{plusMove}
-use Rattle.answers.specs.declared.Tally.{Tally}
 use Rattle.plans.specs.Owed.{cell}
 use Rattle.moves.specs.Parts.{pairsIn}
 use Rattle.moves.proofs.Flat.{pairs-more, pairs-none}
 use Rattle.runs.specs.Kept.{cellOf, pay, paid, Payable}
-use Rattle.answers.specs.Answers.{plusMoves}
 use Rattle.runs.specs.Kept.Payable.{more}
 
 -- where the moves of a list can be paid for, the first of them can
@@ -29,11 +25,6 @@ pub record Paying (list : List ℕ) (i high : ℕ) (table counts end : List ℕ)
   pub payable : Payable table (pairsIn list i high) counts
   pub ends : paid table (pairsIn list i high) counts ≡ end
   pub long : length counts ≡ 4096
-
--- the tally has room for the moves left, and with them is what it is with all
-pub record Tallying (list : List ℕ) (i high : ℕ) (t end : Tally) : Type 0 where
-  pub room : t .moves + t .moves + (high - i) ≤ 8192
-  pub ends : plusMoves (length (pairsIn list i high)) t ≡ end
 
 module _ (list : List ℕ) (i high : ℕ) (fits : high ≤ length list) where
   module _ {table counts end : List ℕ} (s : Paying list i high table counts end) where
@@ -66,18 +57,3 @@ module _ (list : List ℕ) (i high : ℕ) (fits : high ≤ length list) where
     pub paying-done : high < i + 2 → counts ≡ end
     unfolding paid
     paying-done l = rw (pairs-none list i high fits l) at (s .ends)
-
-  module _ {t end : Tally} (s : Tallying list i high t end) where
-    -- one move more is counted
-    pub tallying-more : (t′ : Tally) → i + 2 ≤ high → t′ ≡ plusMove t → Tallying list (i + 2) high t′ end
-    tallying-more t′ l e =
-        let m : Pair = (getD list i 0, getD list (i + 1) 0) in
-        let n : t .moves + 1 + length (pairsIn list (i + 2) high) ≡ t .moves + length (m ∷ pairsIn list (i + 2) high) = omega arith in
-        record {
-          room = omega (arith, ap (λ (x : Tally). x .moves) e, s .room);
-          ends = rw (e, n) (rw (pairs-more list i high fits l) at (s .ends));
-        }
-
-    -- all are counted
-    pub tallying-done : high < i + 2 → t ≡ end
-    tallying-done l = simp add-zero at (rw (pairs-none list i high fits l) at (s .ends))

@@ -1,47 +1,54 @@
--- The rounds of a run: a phase carried whole, its moves paid for, until nothing is awaited. Assumes nothing.
-use mathlib.Core.Path.{_≡_, refl, ap, sym, _∙_}
+-- The rounds of a run: a phase carried whole and logged, its moves paid for, until nothing is awaited. Assumes nothing.
+use mathlib.Core.Path.{_≡_, refl, ap, sym, subst, _∙_}
 use mathlib.Core.Bool.{true, false}
-use mathlib.Core.List.{List}
-use Prim.Native.Nat.{ℕ, suc, _+_, _-_, _*_, _≤_, _<_}
+use mathlib.Core.List.{List, [], _∷_, _++_, append-nil, append-assoc}
+use Prim.Native.Nat.{ℕ, zero, suc, _+_, _-_, _*_, _/_, _%_, _≤_, _<_, min}
 use native.Mathlib.Omega.{arith}
-use lib.ListN.{length, take, length-append}
-use lib.Seq.{take-all, length-sets}
-use borrow.Author.Tests.{lt-ltb}
-use Rattle.counting.specs.Lists.{Pair, join, matching}
-use Rattle.counting.proofs.Tests.{by-test}
+use native.Mathlib.Decide.{ℕ-discrete}
+use lib.ListN.{length, take, drop, getD, set, length-set, length-append}
+use lib.Seq.{sets, take-all, take-at, take-append-le, take-set-le, length-take-le, length-sets, sets-eq, getD-set-same, getD-set-other}
+use borrow.Author.Tests.{lt-ltb, eqb-true, ne-eqb, eq-eqb}
+use Rattle.counting.specs.Lists.{Pair, join, matching, flat}
 use Rattle.counting.specs.Every.{All}
 use Rattle.counting.specs.Every.All.{more, none}
-use Rattle.counting.proofs.Stores.{length-flat}
-use Rattle.racks.specs.Racks.{Rack}
-use Rattle.racks.specs.Table.{aways}
+use Rattle.counting.proofs.Tests.{by-test, both, no-way, and-l, not-on}
+use Rattle.counting.proofs.Count.{count-pos, count-some}
+use Rattle.counting.proofs.Some.{some-hit}
+use Rattle.counting.proofs.Lists.{join-append, matching-append}
+use Rattle.counting.proofs.Stores.{length-flat, flat-append, sets-else}
+use Rattle.racks.specs.Racks.{Rack, slots, rackOf}
+use Rattle.racks.specs.Table.{dest, rackTo, away, awayTo, bound, owes, aways}
 use Rattle.racks.specs.Numbers.{someAway}
-use Rattle.answers.specs.Answers.{noCounts}
+use Rattle.racks.specs.Legal.{Legal}
 use Rattle.racks.specs.Job.{racksOf}
 use Rattle.racks.specs.declared.Job.{Job}
+use Rattle.racks.proofs.Geometry.{rack-lt}
+use Rattle.racks.proofs.LegalTable.{legal-dest}
+use Rattle.racks.proofs.Away.{aways-few, away-held, to-is, to-away}
 use Rattle.answers.specs.declared.Tally.{Tally}
-use Rattle.racks.specs.Legal.{Legal}
-use Rattle.racks.proofs.Jobs.{sound-few}
-use Rattle.tables.specs.Tables.{Filled}
+use Rattle.answers.specs.Answers.{noCounts, plusPhase}
 use Rattle.phases.specs.Plan.{plan}
 use Rattle.phases.proofs.Plans.{plan-aways}
-use Rattle.plans.specs.Owed.{Owed}
-use Rattle.queues.specs.Queues.{Rows, rowsOf, queuedPlan}
-use Rattle.queues.proofs.Ready.{ready-count}
-use Rattle.moves.specs.Moves.{carriedPlaces, Held, carried}
-use Rattle.moves.specs.Phases.{phases, budget}
+use Rattle.bits.specs.Bits.{Next}
+use Rattle.plans.specs.Owed.{cell, Owed}
+use Rattle.queues.specs.Queues.{rowsOf, queuedPlan}
+use Rattle.queues.proofs.Ready.{ready-plan}
+use Rattle.moves.specs.Moves.{carriedPlaces, carriedCards, between, Held, carried}
+use Rattle.moves.specs.Phases.{phases}
 use Rattle.moves.specs.Parts.{pairsIn}
-use Rattle.moves.proofs.Flat.{pairs-of}
-use Rattle.moves.proofs.Carry.{InTurn, aways-carried}
-use Rattle.moves.proofs.Phases.{HasPair, aways-none, aways-some, phases-none, phases-step, phases-pairs, phases-moves, phases-in-turn}
+use Rattle.moves.proofs.Flat.{pairs-all}
+use Rattle.moves.proofs.Carry.{InTurn, in-turn-append, carried-append, legal-carried}
+use Rattle.moves.proofs.Carry.InTurn.{stop}
+use Rattle.moves.proofs.Phases.{HasPair, some-away, aways-some, aways-none, phases-none, phases-step, phases-pairs, phases-moves, Planner}
 use Rattle.moves.proofs.FirstFit.{first-fit}
-use Rattle.budgets.specs.Engine.{PhaseRun, Runnable}
+use Rattle.budgets.specs.Engine.{Runnable, PhaseRun}
 use Rattle.budgets.proofs.NextPhase.{plan-in-turn}
-use Rattle.budgets.proofs.Turns.{Fixed, Turn, going-fixed, turn-runnable, turn-next, turn-done, turn-first, made-is, held-is}
+use Rattle.budgets.proofs.Turns.{Fixed, Turn, tally-is, going-fixed, turn-first, turn-runnable, turn-more, turn-next, held-is, moves-are}
 use Rattle.runs.specs.Run.{hasPairs, gathered}
-use Rattle.runs.specs.Kept.{Payable, Paid, paid}
-use Rattle.runs.specs.Gathered.{phaseCounts, Set, Gathered}
-use Rattle.runs.proofs.Owing.{owed-paid, owed-payable, awaited-is}
-use Rattle.racks.proofs.Away.{aways-few}
+use Rattle.runs.specs.Awaits.{awaits}
+use Rattle.runs.specs.Kept.{Payable, Paid, paid, Awaited, owing}
+use Rattle.runs.specs.Gathered.{phaseCounts, Logged, Round, Rounding, RoundMade, Set, PhasesMade}
+use Rattle.runs.proofs.Owing.{owed-paid, owed-payable, awaited-is, awaited-owed}
 
 -- plans that all have pairs are counted whole
 pub all-counted : {ps : List (List Pair)} → All HasPair ps → matching hasPairs ps ≡ length ps
@@ -55,147 +62,223 @@ unfolding join
 all-few none = omega arith
 all-few (more {x} {l} h r) = omega (arith, all-few r, length-append x (join l))
 
--- with `left` cards awaited, in the midst of a run that began with k
-pub record Round (racks : List Rack) (b k : ℕ) (h₀ : Held) (rows : Rows) (h : Held) (pairs : List ℕ) (left : ℕ) (t : Tally) (owes awaits : List ℕ) : Type 0 where
-  pub turn : Turn racks b k h₀ rows h pairs left
-  pub left-is : left ≡ aways racks (h .places)
-  pub phases-are : t .phases + length (phases racks (h .places)) ≡ length (phases racks (h₀ .places))
-  pub moves-are : t .moves + left ≡ k
-  pub copies-are : t .copies ≡ 0
-  pub owed : Owed racks (h .places) owes
-  pub agree : awaits ≡ owes
+-- lists and one more behind them
+pub join-last : (done : List (List Pair)) (ms : List Pair) → join (done ++ ms ∷ []) ≡ join done ++ ms
+unfolding join
+join-last done ms = join-append done (ms ∷ []) ∙ rw append-nil
 
--- what does not change from round to round
-pub record Steady (racks : List Rack) (n : ℕ) (table : List ℕ) : Type 0 where
-  pub fixed : Fixed racks n
-  pub filled : Filled racks table
-  pub few : length racks ≤ 64
+-- numbers stored behind the first i
+take-sets : (l vs : List ℕ) (i : ℕ) → i + length vs ≤ length l → take (i + length vs) (sets l i vs) ≡ take i l ++ vs
+take-sets l vs i h =
+    ap (take (i + length vs)) (sets-eq vs l i h)
+    ∙ take-at (take i l ++ vs) (drop (i + length vs) l) (i + length vs) (length-append (take i l) vs ∙ omega (arith, length-take-le i l (omega arith)))
 
-module _ (racks : List Rack) (n : ℕ) (table : List ℕ) (f : Steady racks n table) (b k : ℕ) (h₀ : Held) (rows : Rows) (h : Held) (pairs : List ℕ) (left : ℕ)
-    (t : Tally) (owes awaits : List ℕ) (r : Round racks b k h₀ rows h pairs left t owes awaits) (l : 0 < left) where
-  away : someAway racks (h .places) ≡ true
-  away = by-test (someAway racks (h .places)) (λ e. e) (λ e. absurd (omega (arith, r .left-is, aways-none racks (h .places) e)))
+-- one phase more is logged
+logged-more : {done : List (List Pair)} {log log′ : List ℕ} (ms : List Pair) → Logged done log → length (join done) + length ms ≤ 4096 → 12288 ≤ length log → length done < 4096
+    → log′ ≡ set (sets log (2 * length (join done)) (flat ms)) (8192 + length done) (length (join done) + length ms) → Logged (done ++ ms ∷ []) log′
+logged-more {done} {log} {log′} ms g few long j e = record {
+  pairs =
+      let n : 2 * length (join done ++ ms) ≡ 2 * length (join done) + length (flat ms) = omega (arith, length-append (join done) ms, length-flat ms) in
+      rw (join-last done ms, flat-append (join done) ms, e, n)
+      (take-set-le (2 * length (join done) + length (flat ms)) (sets log (2 * length (join done)) (flat ms)) (8192 + length done) _ (omega (arith, length-flat ms))
+      ∙ take-sets log (flat ms) (2 * length (join done)) (omega (arith, length-flat ms))
+      ∙ ap (λ (l : List ℕ). l ++ flat ms) (g .pairs));
+  ends = λ i l. elim (ℕ-discrete i (length done)) [
+    | yes q ↦
+        let all : take (length done + 1) (done ++ ms ∷ []) ≡ done ++ ms ∷ [] = take-all (length done + 1) (done ++ ms ∷ []) (omega (arith, length-append done (ms ∷ []))) in
+        rw (q, e, all, join-last done ms)
+        (getD-set-same (sets log (2 * length (join done)) (flat ms)) (8192 + length done) _ 0 (omega (arith, length-sets log (2 * length (join done)) (flat ms))) ∙ sym (length-append (join done) ms))
+    | no q ↦
+        let m : i < length done = omega (arith, length-append done (ms ∷ [])) in
+        let front : take (i + 1) (done ++ ms ∷ []) ≡ take (i + 1) done = take-append-le (i + 1) done (ms ∷ []) (omega arith) in
+        rw (e, front)
+        (getD-set-other (sets log (2 * length (join done)) (flat ms)) (8192 + length done) (8192 + i) _ 0 (λ x. q (omega arith))
+        ∙ sets-else (flat ms) log (2 * length (join done)) (8192 + i) (λ x. omega (arith, length-flat ms))
+        ∙ g .ends i m)
+  ];
+}
 
-  -- a phase can be run
-  pub round-runnable : Runnable n b rows h pairs
-  round-runnable = turn-runnable racks n (f .fixed) b k h₀ rows h pairs left (r .turn) l
+-- the turn is the same where as many moves are counted and the log is as long
+turn-same : {racks : List Rack} {b k : ℕ} {h₀ : Held} {t t′ : Tally} {h : Held} {line bits log log′ : List ℕ} → t′ .moves ≡ t .moves → length log′ ≡ length log
+    → Turn racks b k h₀ t h line bits log → Turn racks b k h₀ t′ h line bits log′
+turn-same e l s = record {
+  within = rw e (s .within);
+  legal = s .legal;
+  cards-long = s .cards-long;
+  line-long = s .line-long;
+  room = rw l (s .room);
+  ready = λ m. s .ready (rw e at m);
+  rest = rw e (s .rest);
+  count = rw e (s .count);
+}
 
-  module _ (made : ℕ) (h′ : Held) (pairs′ heads bits : List ℕ) (waiting : ℕ) (p : PhaseRun n b left rows h pairs made h′ pairs′ heads bits waiting) where
-    abbrev all : List Pair
-    all = plan racks (h .places)
+module _ {racks : List Rack} {b : ℕ} {h₀ : Held} {done : List (List Pair)} {t : Tally} {h : Held} {racking line bits log dues wants : List ℕ}
+    (r : Round racks b h₀ done t h racking line bits log dues wants) where
+  places-are : h .places ≡ carriedPlaces (join done) (h₀ .places)
+  places-are = ap (λ (x : Held). x .places) (r .held-is)
 
-    -- the whole plan is carried
-    whole : made ≡ length (plan racks (h .places))
-    whole = omega (arith, made-is racks n (f .fixed) b k h₀ rows h pairs left (r .turn) l made h′ pairs′ heads bits waiting p, plan-aways racks (h .places), r .left-is)
+  -- both tables have what racks owe now
+  now-awaited : Owed racks (h .places) wants
+  now-awaited = rw places-are (awaited-owed (r .legal₀) (r .in-turn) (r .awaited))
 
-    taken : take left (plan racks (h .places)) ≡ plan racks (h .places)
-    taken = take-all left (plan racks (h .places)) (omega (arith, plan-aways racks (h .places), r .left-is))
+  -- a card is awaited by the table: one is away
+  pub awaited-some : (k : ℕ) → k < 4096 → owing wants k ≡ true → someAway racks (h .places) ≡ true
+  unfolding someAway owes bound owing
+  awaited-some k l o =
+      let e : cell (k / 64) (k % 64) ≡ k = omega arith in
+      let c : getD wants k 0 ≡ owes racks (h .places) (k / 64) (k % 64) = rw e at (now-awaited .counts (k / 64) (k % 64) (omega arith) (omega arith)) in
+      let some : 0 < owes racks (h .places) (k / 64) (k % 64) = elim (ℕ-discrete (getD wants k 0) 0) [ yes z ↦ absurd (no-way (eq-eqb _ _ z) (not-on o)) | no z ↦ omega arith ] in
+      let (g, m, a) = count-some (slots racks) (bound racks (h .places) (k / 64) (k % 64)) some in
+      some-hit (slots racks) (away racks (h .places)) g m (to-away racks (h .places) (k % 64) g (and-l _ a))
 
-    held-whole : h′ ≡ carried b (plan racks (h .places)) h
-    held-whole = held-is racks n (f .fixed) b k h₀ rows h pairs left (r .turn) l made h′ pairs′ heads bits waiting p ∙ ap (λ (ms : List Pair). carried b ms h) taken
+  -- none is awaited: none is away
+  pub awaited-none : ((k : ℕ) → k < 4096 → getD wants k 0 ≡ 0) → someAway racks (h .places) ≡ false
+  unfolding owes bound rackTo
+  awaited-none z = by-test (someAway racks (h .places))
+      (λ e.
+      let (g, l, a) = some-away racks (h .places) e in
+      let i : ℕ = rackOf racks g in
+      let p : ℕ = rackTo racks (h .places) g in
+      let li : i < 64 = omega (arith, rack-lt racks g l, r .fixed .few) in
+      let lp : p < 64 = omega (arith, rack-lt racks (dest (h .places) g) (legal-dest racks (h .places) (r .turn .legal) g l (away-held racks (h .places) g a)), r .fixed .few) in
+      let c : 0 < owes racks (h .places) i p = count-pos (slots racks) (bound racks (h .places) i p) g l (both (to-is racks (h .places) p g a refl) (eq-eqb i i refl)) in
+      absurd (omega (arith, now-awaited .counts i p li lp, z (cell i p) (omega arith))))
+      (λ e. e)
 
-    some : 0 < made
-    some = omega (arith, whole, first-fit (f .fixed .spared) .has-pair (h .places) (r .turn .legal) away)
+  -- what is not awaited is not awaited after further moves
+  pub awaited-falls : (ms : List Pair) {awaits′ : List ℕ} → Awaited racks (h₀ .places) (join done ++ ms) awaits′ → (k : ℕ) → k < 4096 → getD wants k 0 ≡ 0 → getD awaits′ k 0 ≡ 0
+  unfolding awaits
+  awaited-falls ms {awaits′} a k l z =
+      let e : cell (k / 64) (k % 64) ≡ k = omega arith in
+      let x = rw e at (r .awaited .counts (k / 64) (k % 64) (omega arith) (omega arith)) in
+      let y = rw e at (a .counts (k / 64) (k % 64) (omega arith) (omega arith)) in
+      omega (arith, matching-append (between racks (k / 64) (k % 64)) (join done) ms)
 
-    in-turn : InTurn racks (h .places) (plan racks (h .places))
-    in-turn = plan-in-turn racks (h .places) rows (r .turn .legal) (r .turn .ready l)
+  -- a card is away
+  module _ (e : someAway racks (h .places) ≡ true) where
+    -- so moves are left of 4,096
+    pub round-left : t .moves < 4096
+    round-left = omega (arith, r .turn .count, aways-some racks (h .places) e, aways-few racks (h₀ .places), r .fixed .small)
 
-    -- the pairs carried, as they stand in the list
-    pub pairs-carried : pairsIn pairs′ 0 (2 * made) ≡ plan racks (h .places)
-    pairs-carried =
-        let e : queuedPlan n rows ≡ plan racks (h .places) = ready-count racks (h .places) rows (r .turn .ready l) n (f .fixed .racks-are) in
-        pairs-of pairs′ pairs 0 (2 * made) made (plan racks (h .places)) (rw (← e) (p .list)) (omega (arith, length-flat (plan racks (h .places)), plan-aways racks (h .places), r .left-is, r .turn .room, few)) (omega arith) (omega (arith, whole))
-        ∙ take-all made (plan racks (h .places)) (omega (arith, whole))
-      where
-        few : aways racks (h .places) ≤ 4096
-        few = omega (arith, aways-few racks (h .places), f .fixed .small)
+    -- the plan is carried whole
+    whole : take (4096 - t .moves) (plan racks (h .places)) ≡ plan racks (h .places)
+    whole = take-all (4096 - t .moves) (plan racks (h .places)) (omega (arith, plan-aways racks (h .places), r .turn .count, aways-few racks (h₀ .places), r .fixed .small))
 
-    -- each is owed, and awaited
-    pub round-payable : Payable table (pairsIn pairs′ 0 (2 * made)) owes × Payable table (pairsIn pairs′ 0 (2 * made)) awaits
-    round-payable =
-        let o = owed-payable table (f .filled) (f .few) (f .fixed .small) (r .turn .legal) in-turn (r .owed) in
-        rw (pairs-carried, r .agree) (o, o)
+    pub round-runnable : Runnable b 4096 t h racking line bits log
+    round-runnable = turn-runnable (r .turn) (r .fixed) round-left
 
-    pub made-some : 0 < made
-    made-some = some
+    module _ {t′ : Tally} {h′ : Held} {line′ bits′ log′ : List ℕ} (p : PhaseRun b 4096 t h racking line bits log t′ h′ line′ bits′ log′) where
+      abbrev ms : List Pair
+      ms = plan racks (h .places)
 
-    pub made-left : made ≤ left
-    made-left = omega (arith, whole, plan-aways racks (h .places), r .left-is)
+      held-now : h′ ≡ carried b ms h
+      held-now = rw whole at (held-is (r .turn) (r .fixed) round-left p)
 
-    pub pairs-long : 2 * made ≤ length pairs′
-    pairs-long = rw (p .list, length-sets) (omega (arith, made-left, r .left-is, aways-few racks (h .places), f .fixed .small, r .turn .room))
+      moves-now : t′ .moves ≡ t .moves + length ms
+      moves-now = moves-are (r .turn) (r .fixed) round-left p ∙ ap (λ (l : List Pair). t .moves + length l) whole
 
-    -- the next round
-    pub round-next : (t′ : Tally) (owes′ awaits′ : List ℕ) → Paid table (pairsIn pairs′ 0 (2 * made)) owes awaits t owes′ awaits′ t′
-        → Round racks b k h₀ (rowsOf (rows .queue) heads (rows .tails) (rows .firsts) (rows .ends) bits waiting) h′ pairs′ (left - made) (record { phases = t′ .phases + 1; moves = t′ .moves; copies = t′ .copies }) owes′ awaits′
-    round-next t′ owes′ awaits′ q =
-        let a = aways-carried (r .turn .legal) in-turn in
-        let places-are : h′ .places ≡ carriedPlaces (plan racks (h .places)) (h .places) = ap (λ (x : Held). x .places) held-whole in
-        let step : length (phases racks (h .places)) ≡ suc (length (phases racks (h′ .places))) = rw places-are (ap length (phases-step (first-fit (f .fixed .spared)) (r .turn .legal) away)) in
-        let ms : length (pairsIn pairs′ 0 (2 * made)) ≡ made = ap length pairs-carried ∙ sym whole in
-        record {
-          turn = turn-next racks n (f .fixed) b k h₀ rows h pairs left (r .turn) l made h′ pairs′ heads bits waiting p (λ z. omega (arith, some));
-          left-is = rw places-are (omega (arith, a, whole, r .left-is));
-          phases-are = omega (arith, step, r .phases-are, ap (λ (x : Tally). x .phases) (q .tally-is));
-          moves-are = omega (arith, r .moves-are, ms, made-left, ap (λ (x : Tally). x .moves) (q .tally-is));
-          copies-are = ap (λ (x : Tally). x .copies) (q .tally-is) ∙ r .copies-are;
-          owed = rw (places-are, q .owes-are, pairs-carried) (owed-paid table (f .filled) (f .few) (f .fixed .small) (r .turn .legal) in-turn (r .owed));
-          agree = q .awaits-are ∙ ap (paid table (pairsIn pairs′ 0 (2 * made))) (r .agree) ∙ sym (q .owes-are);
-        }
+      pub round-more : t .moves < t′ .moves
+      round-more = turn-more (r .turn) (r .fixed) round-left p e
 
--- counts, by their three numbers
-tally-is : (t : Tally) (x y z : ℕ) → t .phases ≡ x → t .moves ≡ y → t .copies ≡ z → t ≡ record { phases = x; moves = y; copies = z }
-tally-is t x y z p q r = rw (← p, ← q, ← r)
+      next : Turn racks b 4096 h₀ t′ h′ line′ bits′ log′
+      next = turn-next (r .turn) (r .fixed) round-left p e
 
--- a run from its start to its end
-module _ {job : Job} {b : ℕ} {rows : Rows} {h₀ : Held} {table pairs owes awaits : List ℕ} {due : ℕ} (s : Set job b rows h₀ table pairs owes awaits due) where
-  pub set-steady : Steady (racksOf job) (job .racks) table
-  set-steady = record { fixed = going-fixed (s .going); filled = s .filled; few = sound-few job (s .going .sound) }
+      -- the moves made are few
+      pub round-few : t′ .moves ≤ 4096
+      round-few = next .within
 
-  -- the first round
-  pub round-first : Round (racksOf job) b due h₀ rows h₀ pairs due noCounts owes awaits
-  round-first =
+      list-is : log′ ≡ sets log (2 * t .moves) (flat ms)
+      list-is = rw (ready-plan racks (h .places) (rowsOf line bits) (r .turn .ready round-left)) at (p .planned .written .list)
+
+      pub log-same : length log′ ≡ length log
+      log-same = ap length list-is ∙ length-sets log (2 * t .moves) (flat ms)
+
+      -- the phases made are few: each has a move
+      pub round-phases : t .phases < 4096
+      round-phases = omega (arith, r .phases-count, phases-few, ap length (r .phases-are), length-append done (phases racks (h .places)), ap length (phases-step (first-fit (r .fixed .spared)) (r .turn .legal) e))
+        where
+          fit : Planner racks
+          fit = first-fit (r .fixed .spared)
+
+          phases-few : length (phases racks (h₀ .places)) ≤ 4096
+          phases-few = omega (arith, all-few (phases-pairs fit (r .legal₀)), phases-moves fit (r .legal₀), aways-few racks (h₀ .places), r .fixed .small)
+
+      pub phases-same : t′ .phases ≡ t .phases
+      phases-same = ap (λ (x : Tally). x .phases) (p .done .tally-is)
+
+      -- its pairs stand in the log
+      pub round-pairs : pairsIn log′ (2 * t .moves) (2 * t′ .moves) ≡ ms
+      round-pairs = pairs-all log′ log (2 * t .moves) (2 * t′ .moves) ms list-is (omega (arith, moves-now, length-flat ms)) (omega (arith, round-few, r .log-long))
+
+      pub round-order : (2 * t .moves ≤ 2 * t′ .moves) × (2 * t′ .moves ≤ length log′)
+      round-order = (omega (arith, moves-now), omega (arith, log-same, round-few, r .log-long))
+
+      in-turn : InTurn racks (h .places) ms
+      in-turn = plan-in-turn (r .turn .legal)
+
+      -- and can be paid for in both tables
+      pub round-payable : Payable racking (pairsIn log′ (2 * t .moves) (2 * t′ .moves)) dues × Payable racking (pairsIn log′ (2 * t .moves) (2 * t′ .moves)) wants
+      round-payable = rw round-pairs (
+        owed-payable racking (r .fixed .filled) (r .fixed .few) (r .fixed .small) (r .turn .legal) in-turn (r .owed),
+        owed-payable racking (r .fixed .filled) (r .fixed .few) (r .fixed .small) (r .turn .legal) in-turn now-awaited,
+      )
+
+      module _ {owes′ awaits′ : List ℕ} (q : Paid racking (pairsIn log′ (2 * t .moves) (2 * t′ .moves)) dues wants owes′ awaits′) {t″ : Tally} {log″ : List ℕ}
+          (et : t″ ≡ plusPhase t′) (el : log″ ≡ set log′ (8192 + t .phases) (t′ .moves)) where
+        -- one phase more is done
+        pub round-next : Round racks b h₀ (done ++ ms ∷ []) t″ h′ racking line′ bits′ log″ owes′ awaits′
+        round-next =
+            let moves-end : t″ .moves ≡ t′ .moves = ap (λ (x : Tally). x .moves) et in
+            let long : length log″ ≡ length log′ = ap length el ∙ length-set log′ (8192 + t .phases) (t′ .moves) in
+            let now : h′ .places ≡ carriedPlaces ms (h .places) = ap (λ (x : Held). x .places) held-now in
+            let turned : InTurn racks (h₀ .places) (join done ++ ms) = in-turn-append (r .in-turn) (subst (λ (x : List ℕ). InTurn racks x ms) places-are in-turn) in
+            let owed₁ : Owed racks (h′ .places) owes′ = rw (now, q .owes-are, round-pairs) (owed-paid racking (r .fixed .filled) (r .fixed .few) (r .fixed .small) (r .turn .legal) in-turn (r .owed)) in
+            let owed₂ : Owed racks (h′ .places) awaits′ = rw (now, q .awaits-are, round-pairs) (owed-paid racking (r .fixed .filled) (r .fixed .few) (r .fixed .small) (r .turn .legal) in-turn now-awaited) in
+            let all : h′ ≡ carried b (join done ++ ms) h₀ = held-now ∙ ap (carried b ms) (r .held-is) ∙ sym (carried-append b (join done) ms h₀) in
+            record {
+              fixed = r .fixed;
+              legal₀ = r .legal₀;
+              turn = turn-same moves-end long next;
+              phases-are = r .phases-are ∙ rw (now, phases-step (first-fit (r .fixed .spared)) (r .turn .legal) e, append-assoc);
+              held-is = rw (join-last done ms) all;
+              in-turn = rw (join-last done ms) turned;
+              phases-count = omega (arith, ap (λ (x : Tally). x .phases) et, phases-same, r .phases-count, length-append done (ms ∷ []));
+              moves-count = rw (join-last done ms) (omega (arith, moves-end, moves-now, r .moves-count, length-append (join done) ms));
+              copies-none = ap (λ (x : Tally). x .copies) et ∙ ap (λ (x : Tally). x .copies) (p .done .tally-is) ∙ r .copies-none;
+              logged = logged-more ms (r .logged) (omega (arith, round-few, moves-now, r .moves-count)) (r .log-long) (omega (arith, round-phases, r .phases-count))
+                  (el ∙ rw (list-is, ← r .moves-count, ← r .phases-count, moves-now));
+              log-long = omega (arith, long, log-same, r .log-long);
+              owed = owed₁;
+              awaited = rw (join-last done ms) (awaited-is (r .legal₀) turned (rw (ap (λ (x : Held). x .places) all) at owed₂));
+            }
+
+  -- nothing is away
+  pub round-done : someAway racks (h .places) ≡ false → PhasesMade racks b h₀ h t log
+  unfolding phaseCounts gathered
+  round-done e =
+      let d : phases racks (h₀ .places) ≡ done = r .phases-are ∙ rw (phases-none racks (h .places) e, append-nil) in
       record {
-        turn = turn-first (s .going) due;
-        left-is = s .due-is;
-        phases-are = omega arith;
-        moves-are = omega arith;
-        copies-are = refl;
-        owed = s .owed;
-        agree = s .agree;
+        held-is = rw d (r .held-is);
+        tally-is = tally-is t _ _ _ (r .phases-count ∙ ap length (sym d) ∙ sym (all-counted (phases-pairs (first-fit (r .fixed .spared)) (r .legal₀)))) (r .moves-count ∙ rw d) (r .copies-none);
+        logged = rw d (r .logged);
       }
 
-  legal₀ : Legal (racksOf job) (h₀ .places)
-  legal₀ = turn-first (s .going) due .legal
-
-  -- as many moves as cards are awaited are all moves
-  all-moves : budget (racksOf job) due (h₀ .places) ≡ join (phases (racksOf job) (h₀ .places))
-  unfolding budget
-  all-moves = take-all due (join (phases (racksOf job) (h₀ .places))) (omega (arith, s .due-is, phases-moves (first-fit (s .going .sound .spared)) legal₀))
-
-  -- a run has few phases
-  pub phases-few : length (phases (racksOf job) (h₀ .places)) ≤ 4096
-  phases-few =
-      omega (arith, all-few (phases-pairs (first-fit (s .going .sound .spared)) legal₀), phases-moves (first-fit (s .going .sound .spared)) legal₀, aways-few (racksOf job) (h₀ .places), s .going .sound .small)
-
-  pub due-few : due ≤ 4096
-  due-few = omega (arith, s .due-is, aways-few (racksOf job) (h₀ .places), s .going .sound .small)
-
-  -- nothing is awaited any more
-  pub round-done : {rows′ : Rows} {h : Held} {pairs′ owes′ awaits′ : List ℕ} {left : ℕ} {t : Tally} → Round (racksOf job) b due h₀ rows′ h pairs′ left t owes′ awaits′ → left ≡ 0
-      → Gathered (racksOf job) b h₀ h t owes′ awaits′
-  unfolding gathered phaseCounts
-  round-done {h} {t} r z =
-      let racks = racksOf job in
-      let fit = first-fit (s .going .sound .spared) in
-      let here : someAway racks (h .places) ≡ false = by-test (someAway racks (h .places)) (λ e. absurd (omega (arith, r .left-is, aways-some racks (h .places) e))) (λ e. e) in
-      let none-left = ap length (phases-none racks (h .places) here) in
-      let held : h ≡ carried b (join (phases racks (h₀ .places))) h₀ = turn-done (r .turn) z .held-is ∙ ap (λ (ms : List Pair). carried b ms h₀) all-moves in
-      let places-are : h .places ≡ carriedPlaces (join (phases racks (h₀ .places))) (h₀ .places) = ap (λ (x : Held). x .places) held in
-      record {
-        held-is = held;
-        tally-is =
-            tally-is t _ _ _ (sym (all-counted (phases-pairs fit legal₀) ∙ sym (r .phases-are) ∙ omega (arith, none-left))) (omega (arith, r .moves-are, s .due-is, phases-moves fit legal₀)) (r .copies-are);
-        owed = r .owed;
-        awaited = rw (r .agree) (awaited-is legal₀ (phases-in-turn fit legal₀) (rw (← places-are) (r .owed)));
-      }
+-- a run begins
+pub round-first : {job : Job} {b : ℕ} {h : Held} {racking line bits log owes awaits : List ℕ} → Set job b h racking line bits log owes awaits
+    → Round (racksOf job) b h [] noCounts h racking line bits log owes awaits
+unfolding join flat carriedPlaces carriedCards
+round-first {job} {b} {h} {racking} {line} {bits} {log} {owes} {awaits} s = record {
+  fixed = going-fixed (s .going);
+  legal₀ = s .going .opened .legal;
+  turn = turn-first (s .going) 4096;
+  phases-are = refl;
+  held-is = refl;
+  in-turn = stop;
+  phases-count = refl;
+  moves-count = refl;
+  copies-none = refl;
+  logged = record { pairs = refl; ends = λ j l. absurd (omega arith) };
+  log-long = s .log-long;
+  owed = s .owed;
+  awaited = rw (s .agree) (awaited-is (s .going .opened .legal) stop (s .owed));
+}

@@ -1,12 +1,12 @@
 -- The tables of what racks owe and await, kept through the moves of a run. Assumes nothing: these are definitions.
 use mathlib.Core.Path.{_≡_}
+use mathlib.Core.Bool.{Bool, not}
 use mathlib.Core.List.{List, [], _∷_}
-use Prim.Native.Nat.{ℕ, _+_, _-_, _<_}
+use Prim.Native.Nat.{ℕ, _-_, _<_}
+use lib.Dec.{eqb}
 use lib.ListN.{length, getD, set}
 use Rattle.counting.specs.Lists.{Pair}
 use Rattle.racks.specs.Racks.{Rack}
-use Rattle.answers.specs.declared.Tally.{Tally}
-use Rattle.answers.specs.Answers.{plusMoves}
 use Rattle.plans.specs.Owed.{cell}
 use Rattle.runs.specs.Awaits.{awaits}
 
@@ -29,13 +29,16 @@ pub data Payable (table : List ℕ) : List Pair → List ℕ → Type 0 where
   more : {m : Pair} {ms : List Pair} {counts : List ℕ} → m .0 < 4096 → m .1 < 4096 → getD table (m .0) 0 < 64 → getD table (m .1) 0 < 64
       → 0 < getD counts (cellOf table m) 0 → Payable table ms (pay table m counts) → Payable table (m ∷ ms) counts
 
--- moves paid for in both tables, and counted
-pub record Paid (table : List ℕ) (ms : List Pair) (owes awaits : List ℕ) (t : Tally) (owes′ awaits′ : List ℕ) (t′ : Tally) : Type 0 where
+-- moves paid for in both tables
+pub record Paid (table : List ℕ) (ms : List Pair) (owes awaits owes′ awaits′ : List ℕ) : Type 0 where
   pub owes-are : owes′ ≡ paid table ms owes
   pub awaits-are : awaits′ ≡ paid table ms awaits
-  pub tally-is : t′ ≡ plusMoves (length ms) t
 
 -- the table has what each rack awaits: what it was owed at the start, less the moves made
 pub record Awaited (racks : List Rack) (start : List ℕ) (made : List Pair) (table : List ℕ) : Type 0 where
-  pub counts : (i p : ℕ) → i < length racks → p < length racks → getD table (cell i p) 0 ≡ awaits racks start made i p
+  pub counts : (i p : ℕ) → i < 64 → p < 64 → getD table (cell i p) 0 ≡ awaits racks start made i p
   pub long : length table ≡ 4096
+
+-- cell k of a table has a count
+unfoldable pub owing : List ℕ → ℕ → Bool
+owing table k = not (eqb (getD table k 0) 0)

@@ -2,6 +2,7 @@ use mathlib.Core.Path.{_≡_, sym, _∙_}
 use Rattle.counting.specs.Checks.{first}
 use Rattle.racks.specs.Racks.{ofCaps}
 use Rattle.racks.specs.Numbers.{cardChecks}
+use Rattle.racks.proofs.LegalTable.{legal, spared-caps}
 use Rattle.tables.proofs.Tables.{Open, of-sound, of-cards, open-cards, open-long, accepted}
 use Rattle.moves.specs.Parts.{held}
 use Rattle.runs.proofs.Ending.{bytes-small, ran-caps, ran-refused, ran-done}
@@ -50,9 +51,8 @@ run-cards-requires c κs =
     let s = j .before .before .before .before in
     let n = c .before .before .before .before .cards-number in
     let o = opened e in (
-      o .sound,
-      o .filled,
-      o .legal,
+      record { sound = o .sound; legal = legal _ _ (o .legal); filled = o .filled },
+      rw (o .racks) (spared-caps (s .args .caps .now)),
       open-long (s .args .caps .now) (j .of .result) (j .of .ensures) (s .args .places .now) _ (s .args .b) (s .args .cards .now) _ (n .ensures) (e .if1 .left),
       bytes-small (s .args .b) (accepted (j .of .result) (s .args .b) (s .args .places .now) (s .args .cards .now) (sym (n .ensures .number-is) ∙ e .if1 .left) (of-sound (s .args .caps .now) (j .of .result) (j .of .ensures)) .bytes),
     )

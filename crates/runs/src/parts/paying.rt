@@ -1,19 +1,18 @@
-// Moves paid for: one count less of what is owed and of what is awaited, one move more in the tally.
+// Moves paid for: one count less of what is owed and of what is awaited.
 ghost use mathlib.Core.Path.{_≡_};
-ghost use Prim.Native.Nat.{_+_, _-_, _*_, _≤_, _<_};
+ghost use Prim.Native.Nat.{_-_, _≤_, _<_};
 ghost use lib.ListN.{length, getD, set};
 ghost use Rattle.plans.specs.Owed.{cell};
 ghost use Rattle.moves.specs.Parts.{pairsIn};
 ghost use Rattle.runs.specs.Kept.{Payable, Paid};
-use answers::Tally;
 
 // Where the racks of a move stand in a table of 64 by 64 counts.
-fn cell_of(table: &[u8; 4096], from: u16, to: u16) -> usize
-    requires { ⌜ (from < 4096) × (to < 4096) × (getD (now table) from 0 < 64) × (getD (now table) to 0 < 64) ⌝ }
-    ensures { λ r. ⌜ r ≡ cell (getD (now (table .entry)) from 0) (getD (now (table .entry)) to 0) ⌝ }
+fn cell_of(racking: &[u8; 4096], from: u16, to: u16) -> usize
+    requires { ⌜ (from < 4096) × (to < 4096) × (getD (now racking) from 0 < 64) × (getD (now racking) to 0 < 64) ⌝ }
+    ensures { λ r. ⌜ r ≡ cell (getD (now (racking .entry)) from 0) (getD (now (racking .entry)) to 0) ⌝ }
 {
-    let i = table[from as usize] as usize;
-    let p = table[to as usize] as usize;
+    let i = racking[from as usize] as usize;
+    let p = racking[to as usize] as usize;
     i * 64 + p
 }
 
@@ -25,28 +24,24 @@ fn pay_one(counts: &mut [u16; 4096], k: usize)
     counts[k] = counts[k] - 1;
 }
 
-// The first n moves of a list, paid for in both tables and counted.
+// The moves that stand in the log from `low` up to `high`, paid for in both tables.
 pub fn pay_moves(
-    pairs: &[u16],
-    n: usize,
-    table: &[u8; 4096],
+    log: &[u16],
+    low: usize,
+    high: usize,
+    racking: &[u8; 4096],
     owes: &mut [u16; 4096],
     awaits: &mut [u16; 4096],
-    tally: Tally,
-) -> Tally
-    requires { ⌜ (2 * n ≤ length (now pairs)) × (length (now owes) ≡ 4096) × (length (now awaits) ≡ 4096) × (tally .moves + n ≤ 4096) ⌝ }
-    requires { ⌜ Payable (now table) (pairsIn (now pairs) 0 (2 * n)) (now owes) × Payable (now table) (pairsIn (now pairs) 0 (2 * n)) (now awaits) ⌝ }
-    ensures { λ r. ⌜ Paid (now (table .entry)) (pairsIn (now (pairs .entry)) 0 (2 * n)) (now (owes .entry)) (now (awaits .entry)) tally (now (owes .exit)) (now (awaits .exit)) r ⌝ }
+)
+    requires { ⌜ (low ≤ high) × (high ≤ length (now log)) × (length (now owes) ≡ 4096) × (length (now awaits) ≡ 4096) ⌝ }
+    requires { ⌜ Payable (now racking) (pairsIn (now log) low high) (now owes) × Payable (now racking) (pairsIn (now log) low high) (now awaits) ⌝ }
+    ensures { λ _. ⌜ Paid (now (racking .entry)) (pairsIn (now (log .entry)) low high) (now (owes .entry)) (now (awaits .entry)) (now (owes .exit)) (now (awaits .exit)) ⌝ }
 {
-    let high = 2 * n;
-    let mut made = tally;
-    let mut i: usize = 0;
+    let mut i = low;
     while i + 2 <= high {
-        let k = cell_of(table, pairs[i], pairs[i + 1]);
+        let k = cell_of(racking, log[i], log[i + 1]);
         pay_one(owes, k);
         pay_one(awaits, k);
-        made = made.add_move();
         i = i + 2;
     }
-    made
 }

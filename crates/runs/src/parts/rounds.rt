@@ -1,55 +1,100 @@
 // Phases until nothing is awaited.
+ghost use mathlib.Core.Path.{_≡_};
+ghost use Prim.Native.Nat.{_≤_};
 ghost use Rattle.racks.specs.Job.{racksOf};
-ghost use Rattle.queues.specs.Queues.{rowsOf};
+ghost use Rattle.bits.specs.Bits.{Next};
 ghost use Rattle.moves.specs.Parts.{held};
-ghost use Rattle.runs.specs.Gathered.{Set, Gathered};
+ghost use Rattle.runs.specs.Kept.{owing};
+ghost use Rattle.runs.specs.Gathered.{ENDS, LOG, Rounding, RoundMade, Set, PhasesMade};
 use crate::parts::paying;
 use answers::Tally;
 use racks::Job;
+
+// Where in a run's log the moves made up to each phase's end stand, behind all pairs.
+pub const ENDS: usize = 8192;
+
+// How many numbers a run's log has.
+pub const LOG: usize = 12288;
+
+// The places of the code are those of the definitions.
+pub fn log_agrees()
+    ensures { λ _. do ⌜ ENDS ≡ (← ⟦ENDS⟧ .entry) ⌝ }
+    ensures { λ _. do ⌜ LOG ≡ (← ⟦LOG⟧ .entry) ⌝ }
+{}
+
+// The first cell of the table from `cell` on in which something is awaited; 4,096 where there is none. The counts only fall, so a run looks
+// at each cell once.
+fn next_awaited(awaits: &[u16; 4096], cell: usize) -> usize
+    requires { ⌜ cell ≤ 4096 ⌝ }
+    ensures { λ r. ⌜ Next (owing (now (awaits .entry))) cell 4096 r ⌝ }
+{
+    let mut k = cell;
+    while k < 4096 {
+        if awaits[k] != 0 {
+            return k;
+        }
+        k = k + 1;
+    }
+    4096
+}
+
+// One phase of a run: carried whole, paid for in both tables, and its end noted in the log; gives the tally with it.
+fn run_round(
+    b: usize,
+    tally: Tally,
+    places: &mut [u16],
+    cards: &mut [u8],
+    racking: &[u8; 4096],
+    line: &mut [u16; 4416],
+    bits: &mut [u64; 66],
+    log: &mut [u16],
+    owes: &mut [u16; 4096],
+    awaits: &mut [u16; 4096],
+) -> Tally
+    requires { ⌜ Rounding b tally (held (now places) (now cards)) (now racking) (now line) (now bits) (now log) (now owes) (now awaits) ⌝ }
+    ensures { λ r. ⌜ RoundMade b tally (held (now (places .entry)) (now (cards .entry))) (now (racking .entry)) (now (line .entry)) (now (bits .entry)) (now (log .entry)) (now (owes .entry)) (now (awaits .entry)) r (held (now (places .exit)) (now (cards .exit))) (now (line .exit)) (now (bits .exit)) (now (log .exit)) (now (owes .exit)) (now (awaits .exit)) ⌝ }
+{
+    let low = 2 * tally.moves;
+    let j = tally.phases;
+    let made = budgets::parts::run_phase(b, 4096, tally, places, cards, racking, line, bits, log);
+    let high = 2 * made.moves;
+    paying::pay_moves(log, low, high, racking, owes, awaits);
+    log[ENDS + j] = made.moves as u16;
+    made.add_phase()
+}
 
 // Phases until nothing is awaited; gives the counts of phases and moves.
 pub fn run_phases(
     job: Job,
     b: usize,
-    due: usize,
     places: &mut [u16],
     cards: &mut [u8],
-    table: &[u8; 4096],
-    queue: &[u16; 4096],
-    heads: &mut [u16; 64],
-    tails: &[u16; 64],
-    firsts: &[u16; 64],
-    ends: &[u16; 64],
-    bits: &mut [u64; 65],
-    waiting: &mut u64,
-    pairs: &mut [u16],
+    racking: &[u8; 4096],
+    line: &mut [u16; 4416],
+    bits: &mut [u64; 66],
+    log: &mut [u16],
     owes: &mut [u16; 4096],
     awaits: &mut [u16; 4096],
 ) -> Tally
-    requires { ⌜ Set job b (rowsOf (now queue) (now heads) (now tails) (now firsts) (now ends) (now bits) (now waiting)) (held (now places) (now cards)) (now table) (now pairs) (now owes) (now awaits) due ⌝ }
-    ensures { λ r. ⌜ Gathered (racksOf job) b (held (now (places .entry)) (now (cards .entry))) (held (now (places .exit)) (now (cards .exit))) r (now (owes .exit)) (now (awaits .exit)) ⌝ }
+    requires { ⌜ Set job b (held (now places) (now cards)) (now racking) (now line) (now bits) (now log) (now owes) (now awaits) ⌝ }
+    ensures { λ r. ⌜ PhasesMade (racksOf job) b (held (now (places .entry)) (now (cards .entry))) (held (now (places .exit)) (now (cards .exit))) r (now (log .exit)) ⌝ }
 {
-    let mut left = due;
     let mut tally = Tally::none();
-    while 0 < left {
-        let made = budgets::parts::run_phase(
-            job.racks,
+    let mut cell = next_awaited(awaits, 0);
+    while cell < 4096 {
+        tally = run_round(
             b,
-            left,
+            tally,
             places,
             cards,
-            queue,
-            heads,
-            tails,
-            firsts,
-            ends,
+            racking,
+            line,
             bits,
-            waiting,
-            pairs,
+            log,
+            owes,
+            awaits,
         );
-        let paid = paying::pay_moves(pairs, made, table, owes, awaits, tally);
-        tally = paid.add_phase();
-        left = left - made;
+        cell = next_awaited(awaits, cell);
     }
     tally
 }

@@ -1,21 +1,21 @@
+use borrow.Author.Needs.{needs}
 use Rattle.racks.specs.Job.{racksOf}
-use Rattle.racks.proofs.LegalTable.{legal}
 use Rattle.moves.specs.Parts.{held}
 use Rattle.runs.proofs.Ending.{ends-chained, ends-long, ends-ran}
-use borrow.Author.Needs.{needs}
 use Rattle.runs.proofs.parts.run_cards.Statement.{statement}
 use Rattle.runs.proofs.parts.run_cards.Tie as tie
+
+slice-aggregate-make-phases : tie.Need-slice-aggregate-make-phases
+slice-aggregate-make-phases c = search needs
 
 make-phases-requires : tie.Need-make-phases-requires
 make-phases-requires c κs = search needs
 
 settle-requires : tie.Need-settle-requires
-settle-requires c κs =
-    let s = c .before .before .before .before .before .before .before .before .before .before .before in
+settle-requires c κs = let s = c .before .before .before .before .before .before .before .before .before .before .before .before .before in
     let h = held (s .args .places .now) (s .args .cards .now) in
-    let p = c .before .before .before .before .before .before .make-phases .ensures in
-    let l = legal (racksOf (s .args .job)) (s .args .places .now) (s .pre .2) in
-    (ends-chained (racksOf (s .args .job)) (s .args .b) h l (s .pre .0 .spared) (s .pre .0 .small) (s .pre .3) (held _ _) _ p, s .pre .4, ends-long (racksOf (s .args .job)) (s .args .b) h l (s .pre .0 .spared) (s .pre .0 .small) (s .pre .3) (held _ _) _ p)
+    let p = c .before .before .before .before .before .before .before .make-phases .ensures in
+    (ends-chained (racksOf (s .args .job)) (s .args .b) h (s .pre .0 .legal) (s .pre .1) (s .pre .0 .sound .small) (s .pre .2) (held _ _) _ _ p, s .pre .3, ends-long (racksOf (s .args .job)) (s .args .b) h (s .pre .0 .legal) (s .pre .1) (s .pre .0 .sound .small) (s .pre .2) (held _ _) _ _ p)
 
 same-length : tie.Need-same-length
 same-length c = search needs
@@ -24,12 +24,17 @@ same-length-2 : tie.Need-same-length-2
 same-length-2 c = search needs
 
 returns : tie.Need-returns
-returns c =
-    let s = c .before .before .before .before .before .before .before .before .before .before .before .before .before .before .before .before in
+returns c = let s = c .before .before .before .before .before .before .before .before .before .before .before .before .before .before .before .before .before .before in
     let h = held (s .args .places .now) (s .args .cards .now) in
-    let l = legal (racksOf (s .args .job)) (s .args .places .now) (s .pre .2) in
-    ends-ran (racksOf (s .args .job)) (s .args .b) h l (s .pre .0 .spared) (s .pre .0 .small) (s .pre .3) (held _ _) _ (c .before .before .before .before .before .before .before .before .before .before .before .make-phases .ensures) _ _ _ (c .before .before .before .before .settle .ensures)
+    ends-ran (racksOf (s .args .job)) (s .args .b) h (s .pre .0 .legal) (s .pre .1) (s .pre .0 .sound .small) (s .pre .2) (held _ _) _ _ (c .before .before .before .before .before .before .before .before .before .before .before .before .make-phases .ensures) _ _ _ (c .before .before .before .before .settle .ensures)
 
 pub run-cards-spec : {M : Type 1} → statement M
 run-cards-spec =
-    tie.close (tie.spec make-phases-requires settle-requires same-length same-length-2 returns)
+    tie.close
+    (tie.spec
+    slice-aggregate-make-phases
+    make-phases-requires
+    settle-requires
+    same-length
+    same-length-2
+    returns)

@@ -1,35 +1,27 @@
 use native.Mathlib.Omega.{arith}
-use Prim.Native.Nat.{_+_, _-_, _*_, _≤_}
 use mathlib.Core.Path.{refl}
+use Prim.Native.Nat.{_+_, _-_, _≤_}
 use lib.ListN.{length}
 use Rattle.moves.specs.Parts.{pairsIn}
 use Rattle.runs.specs.Kept.{paid}
-use Rattle.answers.specs.Answers.{plusMoves}
-use Rattle.runs.proofs.Paying.{Paying, Tallying, paying-ends, paying-owed, paying-more, paying-done, tallying-more, tallying-done}
+use Rattle.runs.proofs.Paying.{Paying, paying-ends, paying-owed, paying-more, paying-done}
 use Rattle.runs.proofs.parts.paying.pay_moves.Statement.{statement}
 use Rattle.runs.proofs.parts.paying.pay_moves.Tie as tie
 
 abbrev Inv-loop : tie.InvT-loop
-Inv-loop pairs n table owes₀ awaits₀ high made₀ i₀ owes awaits made i =
-    (i ≤ high) × (high ≤ length pairs) × Paying pairs i high table owes (paid table (pairsIn pairs 0 high) owes₀)
-    × Paying pairs i high table awaits (paid table (pairsIn pairs 0 high) awaits₀)
-    × Tallying pairs i high made (plusMoves (length (pairsIn pairs 0 high)) made₀)
+Inv-loop log low high racking owes₀ awaits₀ i₀ owes awaits i = (i ≤ high) × (high ≤ length log) × Paying log i high racking owes (paid racking (pairsIn log low high) owes₀)
+    × Paying log i high racking awaits (paid racking (pairsIn log low high) awaits₀)
 
 abbrev μ-loop : tie.MeasureT-loop
-μ-loop pairs n table owes₀ awaits₀ high made₀ i₀ owes awaits made i = high - i
-
-mul-high : tie.Need-mul-high Inv-loop μ-loop
-mul-high c = omega arith
+μ-loop log low high racking owes₀ awaits₀ i₀ owes awaits i = high - i
 
 loop-holds : tie.Need-loop-holds Inv-loop μ-loop
-loop-holds c =
-    let s = c .before in (
-      omega arith,
-      s .pre .0 .0,
-      record { payable = s .pre .1 .0; ends = refl; long = s .pre .0 .1 },
-      record { payable = s .pre .1 .1; ends = refl; long = s .pre .0 .2 },
-      record { room = omega arith; ends = refl },
-    )
+loop-holds c = let s = c .before in (
+  s .pre .0 .0,
+  s .pre .0 .1,
+  record { payable = s .pre .1 .0; ends = refl; long = s .pre .0 .2 },
+  record { payable = s .pre .1 .1; ends = refl; long = s .pre .0 .3 },
+)
 
 add-loop : tie.Need-add-loop Inv-loop μ-loop
 add-loop c = omega arith
@@ -50,28 +42,13 @@ shared-slice-read-cell-of-2 : tie.Need-shared-slice-read-cell-of-2 Inv-loop μ-l
 shared-slice-read-cell-of-2 c = omega arith
 
 cell-of-requires : tie.Need-cell-of-requires Inv-loop μ-loop
-cell-of-requires c κs =
-    let l = c .before .before .before .loop in
-    let s = c .before .before .before .before .before in
-    paying-ends (s .args .pairs .now) (l .i) _ (l .inv .1) (l .inv .2) (omega arith)
+cell-of-requires c κs = let l = c .before .before .before .loop in let s = c .before .before .before .before .before in paying-ends (s .args .log .now) (l .i) _ (l .inv .1) (l .inv .2) (omega arith)
 
 pay-one-requires : tie.Need-pay-one-requires Inv-loop μ-loop
-pay-one-requires c κs =
-    let l = c .before .before .before .before .before .loop in
-    let s = c .before .before .before .before .before .before .before in
-    paying-owed (s .args .pairs .now) (l .i) _ (l .inv .1) (l .inv .2) (c .before .cell-of .result) (omega arith) (c .before .cell-of .ensures)
+pay-one-requires c κs = let l = c .before .before .before .before .before .loop in let s = c .before .before .before .before .before .before .before in paying-owed (s .args .log .now) (l .i) _ (l .inv .1) (l .inv .2) (c .before .cell-of .result) (omega arith) (c .before .cell-of .ensures)
 
 pay-one-requires-2 : tie.Need-pay-one-requires-2 Inv-loop μ-loop
-pay-one-requires-2 c κs =
-    let l = c .before .before .before .before .before .before .before .loop in
-    let s = c .before .before .before .before .before .before .before .before .before in
-    let d = c .before .before .before .cell-of in
-    paying-owed (s .args .pairs .now) (l .i) _ (l .inv .1) (l .inv .3) (d .result) (omega arith) (d .ensures)
-
-add-move-requires : tie.Need-add-move-requires Inv-loop μ-loop
-add-move-requires c κs =
-    let l = c .before .before .before .before .before .before .before .before .loop in
-    omega (arith, l .inv .4 .room)
+pay-one-requires-2 c κs = let l = c .before .before .before .before .before .before .before .loop in let s = c .before .before .before .before .before .before .before .before .before in paying-owed (s .args .log .now) (l .i) _ (l .inv .1) (l .inv .3) (c .before .before .before .cell-of .result) (omega arith) (c .before .before .before .cell-of .ensures)
 
 add-i : tie.Need-add-i Inv-loop μ-loop
 add-i c = omega arith
@@ -80,26 +57,22 @@ loop-less : tie.Need-loop-less Inv-loop μ-loop
 loop-less c = omega arith
 
 loop-again : tie.Need-loop-again Inv-loop μ-loop
-loop-again c =
-    let l = c .before .before .before .before .before .before .before .before .before .loop in
-    let s = c .before .before .before .before .before .before .before .before .before .before .before in
-    let d = c .before .before .before .before .before .cell-of in
-    let h : l .i + 2 ≤ 2 * s .args .n = omega arith in (
+loop-again c = let l = c .before .before .before .before .before .before .before .before .loop in
+    let s = c .before .before .before .before .before .before .before .before .before .before in
+    let d = c .before .before .before .before .cell-of in
+    let h : l .i + 2 ≤ s .args .high = omega arith in (
       h,
       l .inv .1,
-      paying-more (s .args .pairs .now) (l .i) _ (l .inv .1) (l .inv .2) (d .result) _ h (d .ensures) (c .before .before .before .pay-one .ensures),
-      paying-more (s .args .pairs .now) (l .i) _ (l .inv .1) (l .inv .3) (d .result) _ h (d .ensures) (c .before .pay-one2 .ensures),
-      tallying-more (s .args .pairs .now) (l .i) _ (l .inv .1) (l .inv .4) _ h (c .add-move .ensures),
+      paying-more (s .args .log .now) (l .i) _ (l .inv .1) (l .inv .2) (d .result) _ h (d .ensures) (c .before .before .pay-one .ensures),
+      paying-more (s .args .log .now) (l .i) _ (l .inv .1) (l .inv .3) (d .result) _ h (d .ensures) (c .pay-one2 .ensures),
     )
 
 returns : tie.Need-returns Inv-loop μ-loop
-returns c =
-    let l = c .before .loop in
+returns c = let l = c .before .loop in
     let s = c .before .before .before in
     record {
-      owes-are = paying-done (s .args .pairs .now) (l .i) _ (l .inv .1) (l .inv .2) (omega arith);
-      awaits-are = paying-done (s .args .pairs .now) (l .i) _ (l .inv .1) (l .inv .3) (omega arith);
-      tally-is = tallying-done (s .args .pairs .now) (l .i) _ (l .inv .1) (l .inv .4) (omega arith);
+      owes-are = paying-done (s .args .log .now) (l .i) _ (l .inv .1) (l .inv .2) (omega arith);
+      awaits-are = paying-done (s .args .log .now) (l .i) _ (l .inv .1) (l .inv .3) (omega arith);
     }
 
 pub pay-moves-spec : {M : Type 1} → statement M
@@ -108,7 +81,6 @@ pay-moves-spec =
     (tie.spec
     Inv-loop
     μ-loop
-    mul-high
     loop-holds
     add-loop
     mul-cell-of
@@ -119,7 +91,6 @@ pay-moves-spec =
     cell-of-requires
     pay-one-requires
     pay-one-requires-2
-    add-move-requires
     add-i
     loop-less
     loop-again
