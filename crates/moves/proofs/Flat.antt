@@ -1,16 +1,16 @@
 -- Laws of the moves that stand in a list of numbers. Assumes nothing.
-use mathlib.Core.Path.{_≡_, refl, ap, _∙_}
-use mathlib.Core.List.{List, [], _∷_}
+use mathlib.Core.Path.{_≡_, refl, ap, sym, _∙_}
+use mathlib.Core.List.{List, [], _∷_, _++_, append-assoc}
 use Prim.Native.Nat.{ℕ, zero, suc, _+_, _*_, _≤_, _<_}
 use native.Mathlib.Nat.{zero-add, suc-add}
 use native.Mathlib.Numerals.{add-one, add-two}
 use native.Mathlib.Omega.{arith}
-use lib.ListN.{length, take, drop, getD}
-use lib.Seq.{sets, slice, slice-cons, length-slice, take-nil, take-all}
+use lib.ListN.{length, take, drop, getD, take-append-drop}
+use lib.Seq.{sets, slice, slice-cons, length-slice, take-nil, take-all, take-append-seam, drop-append-seam}
 use Rattle.counting.specs.Lists.{Pair, flat}
 use Rattle.counting.specs.Every.All.{more}
 use Rattle.moves.specs.Parts.{unflat, pairsIn, Slots, AllSlots}
-use Rattle.counting.proofs.Stores.{length-flat, run-same}
+use Rattle.counting.proofs.Stores.{length-flat, flat-append, run-same}
 
 module _ (list : List ℕ) (i high : ℕ) (fits : high ≤ length list) where
   -- the first pair, and those after it
@@ -70,3 +70,33 @@ pub pairs-all : (list lent : List ℕ) (low high : ℕ) (ms : List Pair) → lis
     → pairsIn list low high ≡ ms
 pairs-all list lent low high ms e at fits =
     pairs-of list lent low high (length ms) ms e (omega arith) (omega (arith, length-flat ms)) (omega arith) ∙ take-all (length ms) ms (omega arith)
+
+-- pairs as numbers, and back
+unflat-flat : (ms : List Pair) → unflat (flat ms) ≡ ms
+unfolding unflat flat
+unflat-flat [] = refl
+unflat-flat (m ∷ ms) = ap (λ (r : List Pair). m ∷ r) (unflat-flat ms)
+
+-- where a list begins with moves, some of them are read from between those before them and those after them
+module _ (list : List ℕ) (p q r : List Pair) (front : take (2 * length (p ++ q ++ r)) list ≡ flat (p ++ q ++ r)) where
+  behind : List ℕ
+  behind = flat r ++ drop (2 * length (p ++ q ++ r)) list
+
+  split : list ≡ flat p ++ (flat q ++ behind)
+  unfolding behind
+  split =
+      sym (take-append-drop (2 * length (p ++ q ++ r)) list)
+      ∙ ap (λ (l : List ℕ). l ++ drop (2 * length (p ++ q ++ r)) list) (front ∙ flat-append (p ++ q) r ∙ ap (λ (l : List ℕ). l ++ flat r) (flat-append p q))
+      ∙ append-assoc (flat p ++ flat q) (flat r) _
+      ∙ append-assoc (flat p) (flat q) _
+
+  pub pairs-between : (low high : ℕ) → low ≡ 2 * length p → high ≡ low + 2 * length q → pairsIn list low high ≡ q
+  unfolding pairsIn
+  pairs-between low high el eh =
+      let a : low ≡ length (flat p) = omega (arith, length-flat p) in
+      let b : high ≡ length (flat p) + length (flat q) = omega (arith, length-flat p, length-flat q) in
+      rw (a, b, slice-drop (length (flat p)) (length (flat q)) list)
+      (ap (λ (l : List ℕ). unflat (take (length (flat q)) (drop (length (flat p)) l))) split
+      ∙ ap (λ (l : List ℕ). unflat (take (length (flat q)) l)) (drop-append-seam (flat p) (flat q ++ behind))
+      ∙ ap unflat (take-append-seam (flat q) behind)
+      ∙ unflat-flat q)

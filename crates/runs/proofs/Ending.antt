@@ -1,29 +1,24 @@
--- The end of a whole run: the shuffle of what the phases gathered; and the outcome, refused and done. Assumes nothing.
-use mathlib.Core.Path.{_≡_, refl, ap, subst, _∙_}
-use mathlib.Core.Bool.{false}
+-- The end of a whole run: the shuffle of what the phases gathered; and the run by its job. Assumes nothing.
+use mathlib.Core.Path.{_≡_, ap, _∙_}
 use mathlib.Core.List.{List}
 use Prim.Native.Nat.{ℕ, _*_, _≤_}
-use lib.Dec.{eqb}
+use native.Mathlib.Nat.{zero-add}
 use lib.ListN.{length}
-use borrow.Author.Tests.{ltb-false}
-use Rattle.counting.proofs.Tests.{or-off-r}
-use Rattle.counting.specs.Checks.{first}
-use Rattle.racks.specs.Racks.{Rack, slots}
-use Rattle.racks.specs.Numbers.{badBytes, cardChecks}
-use Rattle.answers.specs.Answers.{answer, noCounts}
-use Rattle.answers.specs.declared.Answer.{Answer}
 use Rattle.answers.specs.declared.Tally.{Tally}
+use Rattle.racks.specs.Racks.{Rack, ofCaps, slots}
 use Rattle.racks.specs.Legal.{Legal, Spared}
+use Rattle.racks.specs.Job.{jobOf}
+use Rattle.racks.specs.declared.Job.{Job}
 use Rattle.moves.specs.Moves.{Held}
-use Rattle.moves.specs.Phases.{phases}
-use Rattle.moves.specs.Parts.{held, outcomeOf}
-use Rattle.moves.proofs.Outcomes.{outcome-refused, outcome-done}
+use Rattle.moves.specs.Parts.{held}
+use Rattle.moves.proofs.Outcomes.{outcome-cards}
 use Rattle.copies.specs.Chains.{Chained}
 use Rattle.copies.proofs.Chains.{chained}
 use Rattle.shuffle.specs.Shuffle.{settledHeld}
 use Rattle.shuffle.specs.Hands.{Shuffled}
 use Rattle.shuffle.proofs.Shuffles.{settled-held}
 use Rattle.runs.specs.Run.{gathered, counts, ran}
+use Rattle.runs.specs.Ran.{ranBy}
 use Rattle.runs.specs.Gathered.{phaseCounts, PhasesMade, Ran}
 use Rattle.runs.proofs.Gathering.{legal-gathered, long-gathered}
 
@@ -39,32 +34,21 @@ module _ (racks : List Rack) (b : ℕ) (h : Held) (legal : Legal racks (h .place
     pub ends-long : length (h₁ .cards) ≡ length (h₁ .places) * b
     ends-long = rw (legal-after .long) (ap (λ (x : Held). length (x .cards)) (p .held-is) ∙ long-gathered racks b h long)
 
+    -- the shuffle's copies are the first that the tally counts
+    pub ends-none : t .copies ≡ 0
+    unfolding phaseCounts
+    ends-none = ap (λ (x : Tally). x .copies) (p .tally-is)
+
     -- shuffled, it is the end of a whole run
-    pub ends-ran : (count : ℕ) (places′ cards′ : List ℕ) → Shuffled b (h₁ .places) (h₁ .cards) count places′ cards′
-        → Ran racks b h (held places′ cards′) (record { phases = t .phases; moves = t .moves; copies = count })
+    pub ends-ran : (after : Tally) (places′ cards′ : List ℕ) → Shuffled b (h₁ .places) (h₁ .cards) t after places′ cards′ → Ran racks b h (held places′ cards′) after
     unfolding counts phaseCounts
-    ends-ran count places′ cards′ s =
+    ends-ran after places′ cards′ s =
         record {
-          held-is = settled-held racks b (h₁ .places) (h₁ .cards) count places′ cards′ (legal-after .long) s ∙ ap (settledHeld racks b) (p .held-is);
-          tally-is = rw (p .tally-is, s .count-is, p .held-is);
+          held-is = settled-held racks b (h₁ .places) (h₁ .cards) t after places′ cards′ (legal-after .long) s ∙ ap (settledHeld racks b) (p .held-is);
+          tally-is = s .count-is ∙ rw (p .tally-is, p .held-is, zero-add);
         }
 
--- a card that is not refused has at most 256 bytes
-pub bytes-small : (b : ℕ) → badBytes b ≡ false → b ≤ 256
-unfolding badBytes
-bytes-small b e = ltb-false 256 b (or-off-r (eqb b 0) e)
-
--- by the job's racks, and so by the racks of the capacities
-pub ran-caps : {r racks : List Rack} {b : ℕ} {h new : Held} {t : Tally} → r ≡ racks → Ran r b h new t → Ran racks b h new t
-ran-caps {b} {h} {new} {t} e m = subst (λ (q : List Rack). Ran q b h new t) e m
-
-module _ (racks : List Rack) (b : ℕ) (h : Held) where
-  pub ran-refused : (n : ℕ) (r : Answer) → r ≡ answer n noCounts → n ≡ first (cardChecks racks b (h .places) (h .cards)) → (n ≡ 0 → ⊥)
-      → outcomeOf r (h .places) (h .cards) ≡ ran racks b h
-  unfolding ran
-  ran-refused n r er en f = rw (er, ← en) (outcome-refused n _ _ h f)
-
-  pub ran-done : (t : Tally) (r : Answer) (new : Held) → r ≡ answer 0 t → Ran racks b h new t → 0 ≡ first (cardChecks racks b (h .places) (h .cards))
-      → outcomeOf r (new .places) (new .cards) ≡ ran racks b h
-  unfolding ran
-  ran-done t r new er m en = rw (er, m .tally-is, m .held-is, ← en) (outcome-done 0 _ (settledHeld racks b (gathered racks b h)) h refl)
+-- the whole run by a job made from capacities is the capacities'
+pub ran-by : (caps : List ℕ) (job : Job) → job ≡ jobOf (ofCaps caps) → (b : ℕ) (h : Held) → ranBy job b h ≡ ran (ofCaps caps) b h
+unfolding ranBy ran
+ran-by caps job is b h = outcome-cards caps job is b (λ (r : List Rack). counts r b h) (λ (r : List Rack). settledHeld r b (gathered r b h)) h

@@ -4,10 +4,12 @@ ghost use Prim.Native.Nat.{_*_, _≤_};
 ghost use lib.ListN.{length};
 ghost use Rattle.racks.specs.Racks.{slots};
 ghost use Rattle.racks.specs.Legal.{Spared};
-ghost use Rattle.racks.specs.Job.{racksOf};
+ghost use Rattle.racks.specs.Job.{racksOf, FitSpared};
 ghost use Rattle.tables.specs.Tables.{Open};
-ghost use Rattle.moves.specs.Parts.{held};
+ghost use Rattle.moves.specs.Parts.{held, outcomeOf};
 ghost use Rattle.runs.specs.Gathered.{LOG, PhasesMade, Ran};
+ghost use Rattle.runs.specs.Ran.{ranBy};
+use answers::Answer;
 use answers::Tally;
 use queues::parts::arrivals;
 use racks::Job;
@@ -60,10 +62,19 @@ pub fn run_cards(
 {
     let mut log = [0u16; 12288];
     let made = make_phases(job, b, places, cards, racking, &mut log);
-    let copies = shuffle::parts::settle(b, places, cards);
-    Tally {
-        phases: made.phases,
-        moves: made.moves,
-        copies,
+    shuffle::parts::settle(b, places, cards, made)
+}
+
+// The whole run, by the job.
+pub fn run_job(job: Job, b: usize, places: &mut [u16], cards: &mut [u8]) -> Answer
+    requires { ⌜ FitSpared job ⌝ }
+    ensures { λ r. ⌜ outcomeOf r (now (places .exit)) (now (cards .exit)) ≡ ranBy job b (held (now (places .entry)) (now (cards .entry))) ⌝ }
+{
+    let mut racking = [0u8; Job::MAX_SLOTS];
+    let number = tables::parts::cards_number(job, b, places, cards, &mut racking);
+    if number != 0 {
+        return Answer::of(number);
     }
+    let tally = run_cards(job, b, places, cards, &racking);
+    Answer::done(tally)
 }

@@ -1,7 +1,7 @@
-use borrow.Author.Needs.{needs}
 use Rattle.racks.specs.Job.{racksOf}
 use Rattle.moves.specs.Parts.{held}
-use Rattle.runs.proofs.Ending.{ends-chained, ends-long, ends-ran}
+use Rattle.runs.proofs.Ending.{ends-chained, ends-long, ends-none, ends-ran}
+use borrow.Author.Needs.{needs}
 use Rattle.runs.proofs.parts.run_cards.Statement.{statement}
 use Rattle.runs.proofs.parts.run_cards.Tie as tie
 
@@ -12,10 +12,16 @@ make-phases-requires : tie.Need-make-phases-requires
 make-phases-requires c κs = search needs
 
 settle-requires : tie.Need-settle-requires
-settle-requires c κs = let s = c .before .before .before .before .before .before .before .before .before .before .before .before .before in
+settle-requires c κs =
+    let s = c .before .before .before .before .before .before .before .before .before .before .before .before .before in
+    let o = s .pre .0 in
     let h = held (s .args .places .now) (s .args .cards .now) in
-    let p = c .before .before .before .before .before .before .before .make-phases .ensures in
-    (ends-chained (racksOf (s .args .job)) (s .args .b) h (s .pre .0 .legal) (s .pre .1) (s .pre .0 .sound .small) (s .pre .2) (held _ _) _ _ p, s .pre .3, ends-long (racksOf (s .args .job)) (s .args .b) h (s .pre .0 .legal) (s .pre .1) (s .pre .0 .sound .small) (s .pre .2) (held _ _) _ _ p)
+    let p = c .before .before .before .before .before .before .before .make-phases .ensures in (
+      ends-chained (racksOf (s .args .job)) (s .args .b) h (o .legal) (s .pre .1) (o .sound .small) (s .pre .2) (held _ _) _ _ p,
+      s .pre .3,
+      ends-long (racksOf (s .args .job)) (s .args .b) h (o .legal) (s .pre .1) (o .sound .small) (s .pre .2) (held _ _) _ _ p,
+      ends-none (racksOf (s .args .job)) (s .args .b) h (o .legal) (s .pre .1) (o .sound .small) (s .pre .2) (held _ _) _ _ p,
+    )
 
 same-length : tie.Need-same-length
 same-length c = search needs
@@ -24,9 +30,10 @@ same-length-2 : tie.Need-same-length-2
 same-length-2 c = search needs
 
 returns : tie.Need-returns
-returns c = let s = c .before .before .before .before .before .before .before .before .before .before .before .before .before .before .before .before .before .before in
-    let h = held (s .args .places .now) (s .args .cards .now) in
-    ends-ran (racksOf (s .args .job)) (s .args .b) h (s .pre .0 .legal) (s .pre .1) (s .pre .0 .sound .small) (s .pre .2) (held _ _) _ _ (c .before .before .before .before .before .before .before .before .before .before .before .before .make-phases .ensures) _ _ _ (c .before .before .before .before .settle .ensures)
+returns c =
+    let s = c .before .before .before .before .before .before .before .before .before .before .before .before .before .before .before .before .before .before in
+    let o = s .pre .0 in
+    ends-ran (racksOf (s .args .job)) (s .args .b) (held (s .args .places .now) (s .args .cards .now)) (o .legal) (s .pre .1) (o .sound .small) (s .pre .2) (held _ _) _ _ (c .before .before .before .before .before .before .before .before .before .before .before .before .make-phases .ensures) _ _ _ (c .before .before .before .before .settle .ensures)
 
 pub run-cards-spec : {M : Type 1} → statement M
 run-cards-spec =
