@@ -125,6 +125,10 @@ module _ {places : List ℕ} (ok : Chained places) where
     pub onward-end : last x (onward places x) < length places
     onward-end = onward-low (last x (onward places x)) (last-in x (onward places x))
 
+    -- the way on has fewer slots than the table
+    pub onward-short : length (onward places x) < length places
+    onward-short = pigeon (length places) (x ∷ onward places x) onward-distinct onward-low
+
     back-low : (v : ℕ) → In v (x ∷ back places x) → v < length places
     unfolding back
     back-low v m = walk-low (source places) (next places) next-source x (length places) source-low low v m
@@ -152,7 +156,8 @@ module _ {places : List ℕ} (ok : Chained places) where
     unfolding onward back
     back-cycle = turns-back (source places) (next places) next-source source-next x (length places) (omega (arith, ok .small)) source-low (ok .below) low
 
-    on-cycle : next places (last x (onward places x)) ≡ x → head places x ≡ x
+    -- the way on comes to x again: x is the first slot of its factor
+    pub on-cycle : next places (last x (onward places x)) ≡ x → head places x ≡ x
     unfolding head onCycle
     on-cycle e = rw (eq-eqb (next places (last x (onward places x))) x e)
 

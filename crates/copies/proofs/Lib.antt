@@ -10,6 +10,7 @@ pub mod OneRack
 pub mod AwayBy
 pub mod Sourced
 pub mod Walking
+pub mod Behind
 pub mod Writing
 pub mod Progress
 pub mod Tallied

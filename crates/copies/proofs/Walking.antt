@@ -13,11 +13,11 @@ use Rattle.counting.specs.Lists.{among, last}
 use Rattle.counting.proofs.Members.{among-append}
 use Rattle.counting.proofs.Tests.{by-test, pick-same}
 use Rattle.racks.specs.Limits.{FREE}
-use Rattle.copies.specs.Copies.{next, source, after, onward, back, head}
+use Rattle.copies.specs.Copies.{next, source, after, onward, back}
 use Rattle.copies.specs.Chains.{Chained}
-use Rattle.copies.specs.Writes.{Marked}
+use Rattle.copies.specs.Writes.{Marked, MarkedOn, MarkedBack, handEnd}
 use Rattle.copies.proofs.Walks.{Ends, after-stop, after-go}
-use Rattle.copies.proofs.Chains.{back-short, head-cycle, head-shift}
+use Rattle.copies.proofs.Chains.{back-short, onward-short}
 
 last-snoc : (x y : ℕ) (l : List ℕ) → last x (l ++ y ∷ []) ≡ y
 unfolding last
@@ -58,27 +58,6 @@ module _ (f : ℕ → ℕ) (s S : ℕ) where
   unfolding after
   walk-out n x w l = let z : S - n ≡ 0 = omega arith in w .all ∙ rw z (append-nil (w .past))
 
--- the way back from k, as the code walks it
-module _ {places : List ℕ} (ok : Chained places) (k : ℕ) (low : k < length places) (n x : ℕ) (w : Walking (source places) k (length places) n x) where
-  ends-at : Ends k (source places x) → last k (back places k) ≡ x
-  unfolding back
-  ends-at e = ap (last k) (walk-stop (source places) k (length places) n x w e) ∙ sym (w .here)
-
-  -- no card comes to x: the factor begins there
-  pub head-free : source places x ≡ FREE → x ≡ head places k
-  head-free e =
-      let l = ends-at (inl e) in
-      sym (head-shift ok k low (λ i. absurd (omega (arith, sym (ap (source places) l ∙ e) ∙ i, ok .small))) ∙ l)
-
-  -- k's card comes to x: a cycle
-  pub head-turn : source places x ≡ k → k ≡ head places k
-  head-turn e = sym (head-cycle ok k low (ap (source places) (ends-at (inr e)) ∙ e))
-
-  -- S steps are never made
-  pub never-out : length places ≤ n → ⊥
-  unfolding back
-  never-out l = omega (arith, ap length (walk-out (source places) k (length places) n x w l), w .count, back-short ok k low)
-
 -- marks
 module _ (mark : ℕ) where
   -- one slot is marked
@@ -105,37 +84,79 @@ module _ (mark : ℕ) where
   unfolding among
   mark-none seen = record { marks = λ v. refl; long = refl }
 
--- the chain from h, as the code marks it behind h
-pub record Marking (mark : ℕ) (places : List ℕ) (h n x : ℕ) (before after : List ℕ) : Type 0 where
-  pub walking : Walking (next places) h (length places) n x
+-- a walk along f from s, as the code marks the slots behind s
+pub record Marking (f : ℕ → ℕ) (mark : ℕ) (s S n x : ℕ) (before after : List ℕ) : Type 0 where
+  pub walking : Walking f s S n x
   pub marked : Marked mark (walking .past) before after
 
-module _ (mark : ℕ) (places : List ℕ) (h : ℕ) where
-  -- at first only h is marked
-  pub marking-begin : (before : List ℕ) → Marking mark places h 0 h before before
+module _ (f : ℕ → ℕ) (mark s S : ℕ) where
+  -- at first none is
+  pub marking-begin : (before : List ℕ) → Marking f mark s S 0 s before before
   unfolding walk-begin
-  marking-begin before = record { walking = walk-begin (next places) h (length places); marked = mark-none mark before }
+  marking-begin before = record { walking = walk-begin f s S; marked = mark-none mark before }
 
-  module _ (n x : ℕ) (before seen : List ℕ) (m : Marking mark places h n x before seen) where
+  module _ (n x : ℕ) (before seen : List ℕ) (m : Marking f mark s S n x before seen) where
     -- a slot more is marked
-    pub marking-more : (y : ℕ) → n < length places → y ≡ next places x → y ≢ FREE → y ≢ h → y < length seen → Marking mark places h (n + 1) y before (set seen y mark)
+    pub marking-more : (y : ℕ) → n < S → y ≡ f x → y ≢ FREE → y ≢ s → y < length seen → Marking f mark s S (n + 1) y before (set seen y mark)
     unfolding walk-more
     marking-more y l e p q b = record {
-      walking = walk-more (next places) h (length places) n x y (m .walking) l e p q;
+      walking = walk-more f s S n x y (m .walking) l e p q;
       marked = mark-more mark (m .walking .past) (y ∷ []) before seen (set seen y mark) (m .marked) (mark-one mark seen y b);
     }
 
-  -- h is marked, and the chain behind it: counted
-  module _ (n x : ℕ) (start seen : List ℕ) (low : h < length start) (m : Marking mark places h n x (set start h mark) seen) where
-    done : onward places h ≡ m .walking .past → (n ≡ length (onward places h)) × Marked mark (h ∷ onward places h) start seen
-    done e = rw e (sym (m .walking .count), mark-more mark (h ∷ []) (m .walking .past) start (set start h mark) seen (mark-one mark start h low) (m .marked))
+    done : after f s S s ≡ m .walking .past → (n ≡ length (after f s S s)) × (x ≡ last s (after f s S s)) × Marked mark (after f s S s) before seen
+    done e = rw e (sym (m .walking .count), m .walking .here, m .marked)
 
-    -- the chain ends here
-    pub marking-stop : Ends h (next places x) → (n ≡ length (onward places h)) × Marked mark (h ∷ onward places h) start seen
-    unfolding onward
-    marking-stop e = done (walk-stop (next places) h (length places) n x (m .walking) e)
+    -- the walk ends here: counted
+    pub marking-stop : Ends s (f x) → (n ≡ length (after f s S s)) × (x ≡ last s (after f s S s)) × Marked mark (after f s S s) before seen
+    marking-stop e = done (walk-stop f s S n x (m .walking) e)
 
     -- all steps are made
-    pub marking-out : length places ≤ n → (n ≡ length (onward places h)) × Marked mark (h ∷ onward places h) start seen
-    unfolding onward
-    marking-out l = done (walk-out (next places) h (length places) n x (m .walking) l)
+    pub marking-out : S ≤ n → length (after f s S s) ≡ n
+    marking-out l = ap length (walk-out f s S n x (m .walking) l) ∙ m .walking .count
+
+-- the way on from h: h is marked first
+module _ {places : List ℕ} (ok : Chained places) (mark h : ℕ) (low : h < length places) (n x : ℕ) (start seen : List ℕ) (long : length start ≡ 4096) (m : Marking (next places) mark h (length places) n x (set start h mark) seen) where
+  on-marked : Ends h (next places x) → Marked mark (h ∷ onward places h) start seen
+  unfolding onward
+  on-marked e = mark-more mark (h ∷ []) (onward places h) start (set start h mark) seen (mark-one mark start h (omega (arith, ok .small))) (marking-stop (next places) mark h (length places) n x (set start h mark) seen m e .2)
+
+  on-last : Ends h (next places x) → x ≡ last h (onward places h)
+  unfolding onward
+  on-last e = marking-stop (next places) mark h (length places) n x (set start h mark) seen m e .1
+
+  on-count : Ends h (next places x) → n ≡ length (onward places h)
+  unfolding onward
+  on-count e = marking-stop (next places) mark h (length places) n x (set start h mark) seen m e .0
+
+  -- it ends at a free slot
+  pub on-free : next places x ≡ FREE → MarkedOn places mark h start h n FREE seen
+  on-free e = record { head-is = refl; left-is = on-count (inl e); ends = inr (ap (next places) (sym (on-last (inl e))) ∙ e, refl); marked = on-marked (inl e) }
+
+  -- it comes to h again
+  pub on-turn : next places x ≡ h → (end last : ℕ) → last ≡ x → end ≡ handEnd last n → MarkedOn places mark h start h n end seen
+  on-turn e end last i p = record {
+    head-is = refl;
+    left-is = on-count (inr e);
+    ends = inl (ap (next places) (sym (on-last (inr e))) ∙ e, p ∙ ap (λ (l : ℕ). handEnd l n) (i ∙ on-last (inr e)));
+    marked = on-marked (inr e);
+  }
+
+  -- S steps are never made
+  pub on-never : length places ≤ n → ⊥
+  unfolding onward
+  on-never l = omega (arith, marking-out (next places) mark h (length places) n x (set start h mark) seen m l, onward-short ok h low)
+
+-- the way back from k
+module _ {places : List ℕ} (ok : Chained places) (mark k : ℕ) (low : k < length places) (n x : ℕ) (start seen : List ℕ) (m : Marking (source places) mark k (length places) n x start seen) where
+  -- it ends
+  pub back-stop : Ends k (source places x) → MarkedBack places mark k start x n seen
+  unfolding back
+  back-stop e =
+      let d = marking-stop (source places) mark k (length places) n x start seen m e in
+      record { head-is = d .1; left-is = d .0; marked = d .2 }
+
+  -- S steps are never made
+  pub back-never : length places ≤ n → ⊥
+  unfolding back
+  back-never l = omega (arith, marking-out (source places) mark k (length places) n x start seen m l, back-short ok k low)

@@ -1,7 +1,8 @@
 -- Copies written into a list: one, those of a shift, those of a factor. Assumes nothing.
 use mathlib.Core.Path.{_≡_, refl, sym, ap, _∙_}
 use mathlib.Core.Logic.{_≢_, inl, inr}
-use mathlib.Core.List.{List, [], _∷_, _++_}
+use mathlib.Core.Bool.{Bool, true, false}
+use mathlib.Core.List.{List, [], _∷_, _++_, append-nil}
 use Prim.Native.Nat.{ℕ, zero, suc, _+_, _-_, _*_, _≤_, _<_}
 use native.Mathlib.Omega.{arith}
 use native.Mathlib.Numerals.{add-one}
@@ -10,16 +11,20 @@ use lib.Dec.{eqb}
 use lib.ListN.{length, getD, take, drop, set, length-append}
 use lib.Seq.{sets, sets-eq, length-sets, take-at}
 use borrow.Author.Tests.{eq-eqb, ne-eqb}
-use Rattle.counting.specs.Lists.{Pair, flat, last}
+use Rattle.counting.specs.Tests.{_or_, pick}
+use Rattle.counting.specs.Lists.{Pair, flat, among, last}
+use Rattle.counting.proofs.Members.{among-append}
 use Rattle.counting.proofs.Tests.{by-test}
 use Rattle.racks.specs.Limits.{FREE, HAND}
-use Rattle.copies.specs.Copies.{next, source, onward, head, factor, shift, cycle, copies}
+use Rattle.copies.specs.Copies.{next, source, onward, back, head, factor, shift, cycle, copies}
 use Rattle.copies.specs.Chains.{Chained}
-use Rattle.copies.specs.Writes.{putCopies, steps, Inside, walked, walkCount, handEnd, Marked}
+use Rattle.copies.specs.Writes.{putCopies, steps, Inside, walked, walkCount, handEnd, Marked, MarkedOn, MarkedBack, Walked}
 use Rattle.counting.specs.Every.{In}
 use Rattle.counting.proofs.Stores.{length-flat, flat-append, sets-append, sets-take}
-use Rattle.copies.proofs.Walks.{Path}
-use Rattle.copies.proofs.Chains.{onward-low, onward-path, head-low, cycle-source, cycle-ends, shift-ends, source-low}
+use Rattle.copies.proofs.Walks.{Path, after-stop}
+use Rattle.copies.proofs.Chains.{onward-low, onward-path, onward-end, on-cycle, head-cases, head-low, cycle-source, cycle-ends, shift-ends, source-low}
+use Rattle.copies.proofs.Walking.{mark-more}
+use Rattle.copies.proofs.Behind.{behind-count, behind-among}
 use Rattle.copies.proofs.Costs.{length-shift, copies-shift, copies-cycle}
 
 -- one more of the numbers to be stored
@@ -220,3 +225,89 @@ module _ {places : List ℕ} (ok : Chained places) (k : ℕ) (low : k < length p
   -- its slots are marked
   pub walk-marked : (mark : ℕ) (seen after : List ℕ) → Marked mark (h ∷ onward places h) seen after → Marked mark (factor places k) seen after
   walk-marked mark seen after m = rw factor-is m
+
+-- the same slots in another order
+mark-same : (mark : ℕ) (a b seen after : List ℕ) → ((v : ℕ) → among v a ≡ among v b) → Marked mark a seen after → Marked mark b seen after
+mark-same mark a b seen after e m = record { marks = λ v. m .marks v ∙ ap (λ (t : Bool). pick t mark (getD seen v 0)) (e v); long = m .long }
+
+or-swap : (a b : Bool) → (a or b) ≡ (b or a)
+unfolding _or_
+or-swap true true = refl
+or-swap true false = refl
+or-swap false true = refl
+or-swap false false = refl
+
+-- the factor of slot k, walked from there on
+module _ {places : List ℕ} (ok : Chained places) (mark k : ℕ) (low : k < length places) (seen s₁ : List ℕ) (h₀ n end : ℕ) (on : MarkedOn places mark k seen h₀ n end s₁) where
+  -- it comes to k again: a cycle
+  pub walked-cycle : end ≢ FREE → Walked places mark k seen h₀ n end s₁
+  walked-cycle q = elim (on .ends) [
+    | inr e ↦ absurd (q (e .1))
+    | inl e ↦
+        let is : k ≡ head places k = sym (on-cycle ok k low (e .0)) in
+        let j : end ≡ handEnd (source places k) n = e .1 ∙ ap (λ (l : ℕ). handEnd l n) (sym (cycle-source ok k low (e .0))) in
+        rw (on .head-is) (record {
+          copies-are = walk-copies ok k low k n (source places k) is (on .left-is) refl ∙ ap (walked places k n) (sym j);
+          inside = walk-inside ok k low k n (source places k) is (on .left-is) refl;
+          held = λ p. rw j (walk-held ok k low k n (source places k) is (on .left-is) refl (λ u. p (j ∙ u)));
+          marked = walk-marked ok k low k n (source places k) is (on .left-is) refl mark seen s₁ (on .marked);
+        })
+  ]
+
+  -- it does not, or k's card is settled: then back from k
+  module _ (none : end ≡ FREE) (s₂ : List ℕ) (h m : ℕ) (bk : MarkedBack places mark k s₁ h m s₂) where
+    both : Marked mark ((k ∷ onward places k) ++ back places k) seen s₂
+    both = mark-more mark (k ∷ onward places k) (back places k) seen s₁ s₂ (on .marked) (bk .marked)
+
+    from-head : (is : h ≡ head places k) (size : m + n ≡ length (onward places h)) → handEnd (source places h) (m + n) ≡ FREE → ((v : ℕ) → among v ((k ∷ onward places k) ++ back places k) ≡ among v (h ∷ onward places h)) → Walked places mark k seen h (m + n) FREE s₂
+    from-head is size e same = record {
+      copies-are = walk-copies ok k low h (m + n) (source places h) is size refl ∙ ap (walked places h (m + n)) e;
+      inside = walk-inside ok k low h (m + n) (source places h) is size refl;
+      held = λ q. absurd (q refl);
+      marked = walk-marked ok k low h (m + n) (source places h) is size refl mark seen s₂ (mark-same mark _ _ seen s₂ same both);
+    }
+
+    no-hand : (s c : ℕ) → (c ≢ 0 → s ≡ FREE) → handEnd s c ≡ FREE
+    unfolding handEnd
+    no-hand s c f = elim (ℕ-discrete c 0) [ yes z ↦ rw (eq-eqb c 0 z) | no z ↦ rw (ne-eqb c 0 z) (f z) ]
+
+    along : next places (last k (onward places k)) ≡ FREE → Walked places mark k seen h (m + n) FREE s₂
+    along e = elim (head-cases ok k low) [
+      | inl u ↦ absurd (omega (arith, sym e ∙ u .1, ok .small))
+      | inr u ↦
+          let is : h ≡ head places k = bk .head-is ∙ sym (u .0) in
+          let start : source places (last k (back places k)) ≡ FREE = ap (source places) (sym (u .0)) ∙ u .1 in
+          let there : last k (back places k) < length places = rw (u .0) at (head-low ok k low) in
+          from-head is
+          (ap (λ (c : ℕ). c + n) (bk .left-is) ∙ ap (λ (c : ℕ). length (back places k) + c) (on .left-is) ∙ sym (behind-count ok k low e start there) ∙ ap (λ (x : ℕ). length (onward places x)) (sym (bk .head-is)))
+          (no-hand (source places h) (m + n) (λ _. ap (source places) (bk .head-is) ∙ start))
+          (λ v.
+          among-append v (k ∷ onward places k) (back places k) ∙ or-swap (among v (k ∷ onward places k)) (among v (back places k)) ∙ sym (behind-among ok k low e start there v)
+          ∙ ap (λ (x : ℕ). among v (x ∷ onward places x)) (sym (bk .head-is)))
+    ]
+
+    alone : next places (last k (onward places k)) ≡ k → n ≡ 0 → Walked places mark k seen h (m + n) FREE s₂
+    unfolding back last
+    alone e z =
+        let c : onward places k ≡ [] = nothing (onward places k) (sym (on .left-is) ∙ z) in
+        let t : next places k ≡ k = rw c at e in
+        let b : back places k ≡ [] = after-stop (source places) k (length places) k (inr (cycle-source ok k low e ∙ ap (last k) c)) in
+        let i : h ≡ k = bk .head-is ∙ ap (last k) b in
+        let w : m ≡ 0 = bk .left-is ∙ ap length b in
+        from-head (i ∙ sym (on-cycle ok k low e)) (omega (arith, ap (λ (x : ℕ). length (onward places x)) i, ap length c)) (no-hand (source places h) (m + n) (λ q. absurd (q (omega arith))))
+        (λ v. ap (λ (l : List ℕ). among v ((k ∷ onward places k) ++ l)) b ∙ ap (among v) (append-nil (k ∷ onward places k)) ∙ ap (λ (x : ℕ). among v (x ∷ onward places x)) (sym i))
+      where
+        nothing : (l : List ℕ) → length l ≡ 0 → l ≡ []
+        nothing [] e = refl
+        nothing (x ∷ l) e = absurd (omega arith)
+
+    -- so it begins where the way back ends
+    pub walked-back : Walked places mark k seen h (m + n) FREE s₂
+    unfolding handEnd
+    walked-back = elim (on .ends) [
+      | inr e ↦ along (e .0)
+      | inl e ↦ alone (e .0) (settled-only (last k (onward places k)) (onward-end ok k low) (sym (e .1) ∙ none))
+    ]
+      where
+        settled-only : (l : ℕ) → l < length places → handEnd l n ≡ FREE → n ≡ 0
+        settled-only l b e = elim (ℕ-discrete n 0) [ yes z ↦ z | no z ↦ absurd (omega (arith, ok .small, rw (ne-eqb n 0 z) at e)) ]

@@ -1,6 +1,6 @@
 -- What the inner functions of the copy list promise: the sources in a table, marks, copies written into a list. Assumes nothing: these are definitions.
 use mathlib.Core.Path.{_≡_}
-use mathlib.Core.Logic.{_≢_}
+use mathlib.Core.Logic.{_≢_, _⊎_}
 use mathlib.Core.Bool.{Bool, not}
 use mathlib.Core.List.{List, [], _∷_, _++_}
 use Prim.Native.Nat.{ℕ, zero, suc, _+_, _*_, _<_}
@@ -10,14 +10,14 @@ use lib.Seq.{sets}
 use Rattle.counting.specs.Tests.{pick}
 use Rattle.counting.specs.Count.{some}
 use Rattle.counting.specs.Checks.{first, refusal}
-use Rattle.counting.specs.Lists.{Pair, flat, among}
+use Rattle.counting.specs.Lists.{Pair, flat, among, last}
 use Rattle.racks.specs.Limits.{FREE, HAND}
 use Rattle.racks.specs.Numbers.{someAway, tooShort}
 use Rattle.racks.specs.Job.{racksOf}
 use Rattle.racks.specs.declared.Job.{Job}
 use Rattle.answers.specs.Answers.{copiesOf, Listed, listed}
 use Rattle.tables.specs.Tables.{namedSlot, awayBy, tableNumber}
-use Rattle.copies.specs.Copies.{next, source, shift, factor, copies, copyList}
+use Rattle.copies.specs.Copies.{next, source, onward, back, shift, factor, copies, copyList}
 
 -- a card is away, by a table of each slot's rack
 unfoldable pub someAwayBy : List ℕ → List ℕ → Bool
@@ -75,6 +75,19 @@ pub record Marked (mark : ℕ) (slots before after : List ℕ) : Type 0 where
 -- the slots that are due at slot k: its factor, unless that is marked
 unfoldable pub due : List ℕ → ℕ → List ℕ → ℕ → List ℕ
 due places mark seen k = pick (eqb (getD seen k 0) mark) [] (factor places k)
+
+-- the way on from slot h, marked: it comes to h again, and `end` is the last slot where that is another, or it ends at a free slot
+pub record MarkedOn (places : List ℕ) (mark h : ℕ) (seen : List ℕ) (head left end : ℕ) (marks : List ℕ) : Type 0 where
+  pub head-is : head ≡ h
+  pub left-is : left ≡ length (onward places h)
+  pub ends : ((next places (last h (onward places h)) ≡ h) × (end ≡ handEnd (last h (onward places h)) left)) ⊎ ((next places (last h (onward places h)) ≡ FREE) × (end ≡ FREE))
+  pub marked : Marked mark (h ∷ onward places h) seen marks
+
+-- the way back from slot k, marked
+pub record MarkedBack (places : List ℕ) (mark k : ℕ) (seen : List ℕ) (head left : ℕ) (marks : List ℕ) : Type 0 where
+  pub head-is : head ≡ last k (back places k)
+  pub left-is : left ≡ length (back places k)
+  pub marked : Marked mark (back places k) seen marks
 
 -- the walk through the factor of slot k: its first slot, how many follow, whose card goes to the hand; its slots are marked
 pub record Walked (places : List ℕ) (mark k : ℕ) (seen : List ℕ) (head left end : ℕ) (marks : List ℕ) : Type 0 where

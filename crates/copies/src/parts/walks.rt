@@ -1,12 +1,10 @@
 // The chains of a table, for the copy list and for the shuffle: its inverse, and the walk through the factor of a slot.
 ghost use mathlib.Core.Path.{_≡_};
-ghost use mathlib.Core.List.{_∷_};
 ghost use Prim.Native.Nat.{_<_};
 ghost use lib.ListN.{length};
 ghost use Rattle.tables.specs.Tables.{namedSlot};
-ghost use Rattle.copies.specs.Copies.{onward, head};
 ghost use Rattle.copies.specs.Chains.{Chained};
-ghost use Rattle.copies.specs.Writes.{noSources, Sources, putSource, Marked, handEnd, Walked};
+ghost use Rattle.copies.specs.Writes.{noSources, Sources, putSource, handEnd, MarkedOn, MarkedBack, Walked};
 use crate::parts;
 use racks::Job;
 
@@ -39,53 +37,6 @@ pub fn fill_sources(places: &[u16], sources: &mut [u16; 4097])
     }
 }
 
-// The first slot of the factor of slot k: where the way back ends, or k itself on a cycle.
-pub fn head_of(places: &[u16], sources: &[u16; 4097], k: usize) -> usize
-    requires { ⌜ Chained (now places) × Sources (now places) (now sources) × (k < length (now places)) ⌝ }
-    ensures { λ r. ⌜ r ≡ head (now (places .entry)) k ⌝ }
-{
-    let mut x = k;
-    let mut n: usize = 0;
-    while n < places.len() {
-        let y = sources[x];
-        if y == Job::FREE {
-            return x;
-        }
-        let from = parts::wide(y);
-        if from == k {
-            return k;
-        }
-        x = from;
-        n = n + 1;
-    }
-    x
-}
-
-// Marks slot h and the slots that follow it; how many follow.
-pub fn mark_chain(places: &[u16], seen: &mut [u8; 4096], mark: u8, h: usize) -> usize
-    requires { ⌜ Chained (now places) × (h < length (now places)) × (length (now seen) ≡ 4096) ⌝ }
-    ensures count { λ r. ⌜ r ≡ length (onward (now (places .entry)) h) ⌝ }
-    ensures marks { λ _. ⌜ Marked mark (h ∷ onward (now (places .entry)) h) (now (seen .entry)) (now (seen .exit)) ⌝ }
-{
-    seen[h] = mark;
-    let mut x = h;
-    let mut n: usize = 0;
-    while n < places.len() {
-        let y = places[x];
-        if y == Job::FREE {
-            return n;
-        }
-        let to = parts::wide(y);
-        if to == h {
-            return n;
-        }
-        seen[to] = mark;
-        x = to;
-        n = n + 1;
-    }
-    n
-}
-
 // Whose card goes to the hand, where `from` is the slot whose card comes to the first and n slots follow that: nobody's on a lone slot.
 pub fn hand_end(from: u16, n: usize) -> u16
     ensures { λ r. ⌜ r ≡ handEnd from n ⌝ }
@@ -94,6 +45,84 @@ pub fn hand_end(from: u16, n: usize) -> u16
         return Job::FREE;
     }
     from
+}
+
+// Marks slot h and the slots that follow it. Where that comes to h again, the walk is that of h's factor, a cycle.
+pub fn mark_on(places: &[u16], seen: &mut [u8; 4096], mark: u8, h: usize) -> Walk
+    requires { ⌜ Chained (now places) × (h < length (now places)) × (length (now seen) ≡ 4096) ⌝ }
+    ensures { λ r. ⌜ MarkedOn (now (places .entry)) mark h (now (seen .entry)) (r .head) (r .left) (r .end) (now (seen .exit)) ⌝ }
+{
+    seen[h] = mark;
+    let mut x = h;
+    let mut n: usize = 0;
+    while n < places.len() {
+        let y = places[x];
+        if y == Job::FREE {
+            return Walk {
+                head: h,
+                left: n,
+                end: Job::FREE,
+            };
+        }
+        let to = parts::wide(y);
+        if to == h {
+            let end = hand_end(x as u16, n);
+            return Walk {
+                head: h,
+                left: n,
+                end,
+            };
+        }
+        seen[to] = mark;
+        x = to;
+        n = n + 1;
+    }
+    Walk {
+        head: h,
+        left: n,
+        end: Job::FREE,
+    }
+}
+
+// Marks the slots on the way back from slot k: where it ends, and how many they are.
+pub fn mark_back(
+    places: &[u16],
+    sources: &[u16; 4097],
+    seen: &mut [u8; 4096],
+    mark: u8,
+    k: usize,
+) -> Walk
+    requires { ⌜ Chained (now places) × Sources (now places) (now sources) × (k < length (now places)) × (length (now seen) ≡ 4096) ⌝ }
+    ensures { λ r. ⌜ MarkedBack (now (places .entry)) mark k (now (seen .entry)) (r .head) (r .left) (now (seen .exit)) ⌝ }
+{
+    let mut x = k;
+    let mut n: usize = 0;
+    while n < places.len() {
+        let y = sources[x];
+        if y == Job::FREE {
+            return Walk {
+                head: x,
+                left: n,
+                end: Job::FREE,
+            };
+        }
+        let from = parts::wide(y);
+        if from == k {
+            return Walk {
+                head: x,
+                left: n,
+                end: Job::FREE,
+            };
+        }
+        seen[from] = mark;
+        x = from;
+        n = n + 1;
+    }
+    Walk {
+        head: x,
+        left: n,
+        end: Job::FREE,
+    }
 }
 
 // The walk through the factor of slot k, which is marked.
@@ -107,8 +136,14 @@ pub fn walk_factor(
     requires { ⌜ Chained (now places) × Sources (now places) (now sources) × (k < length (now places)) × (length (now seen) ≡ 4096) ⌝ }
     ensures { λ r. ⌜ Walked (now (places .entry)) mark k (now (seen .entry)) (r .head) (r .left) (r .end) (now (seen .exit)) ⌝ }
 {
-    let head = head_of(places, sources, k);
-    let left = mark_chain(places, seen, mark, head);
-    let end = hand_end(sources[head], left);
-    Walk { head, left, end }
+    let on = mark_on(places, seen, mark, k);
+    if on.end != Job::FREE {
+        return on;
+    }
+    let back = mark_back(places, sources, seen, mark, k);
+    Walk {
+        head: back.head,
+        left: back.left + on.left,
+        end: Job::FREE,
+    }
 }
