@@ -1,28 +1,11 @@
 // What the cases print.
-use racks::Job;
-
-// A number of a list: `F` for a free slot, `h` for the hand.
-fn say_number(x: u16) {
-    if x == Job::FREE {
-        io::write_all(1, b"F");
-        return;
-    }
-    if x == Job::HAND {
-        io::write_all(1, b"h");
-        return;
-    }
-    io::print_decimal(1, x as u64);
-}
-
-fn say_entry(x: u16) {
-    io::write_all(1, b" ");
-    say_number(x);
-}
+use saying::parts::say_number;
 
 // A number of a list of copies: from, then to.
 fn say_step(i: usize, x: u16) {
     if i % 2 == 0 {
-        say_entry(x);
+        io::write_all(1, b" ");
+        say_number(x);
         return;
     }
     io::write_all(1, b">");
@@ -38,15 +21,6 @@ pub fn say_steps(lent: &[u16]) {
         i = i + 1;
     }
     io::write_all(1, b"\n");
-}
-
-pub fn say_places(places: &[u16]) {
-    io::write_all(1, b" places");
-    let mut i: usize = 0;
-    while i < places.len() {
-        say_entry(places[i]);
-        i = i + 1;
-    }
 }
 
 fn say_byte(x: u8) {

@@ -1,2 +1,2 @@
-// What the programs that run paper cards print first.
+// What the programs that run paper cards print.
 pub mod parts;

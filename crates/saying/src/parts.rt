@@ -1,5 +1,6 @@
-// The line of an answer.
+// What a line of a case says: the answer, numbers, bytes.
 use answers::Answer;
+use racks::Job;
 
 // A name, the number given, and the counts of phases, moves and copies.
 pub fn say_answer(name: &[u8], answer: Answer) {
@@ -13,4 +14,46 @@ pub fn say_answer(name: &[u8], answer: Answer) {
     io::print_decimal(1, tally.moves as u64);
     io::write_all(1, b" ");
     io::print_decimal(1, tally.copies as u64);
+}
+
+// A number of a list: `F` for a free slot, `h` for the hand.
+pub fn say_number(x: u16) {
+    if x == Job::FREE {
+        io::write_all(1, b"F");
+        return;
+    }
+    if x == Job::HAND {
+        io::write_all(1, b"h");
+        return;
+    }
+    io::print_decimal(1, x as u64);
+}
+
+// A name, then the numbers of a list.
+pub fn say_numbers(name: &[u8], list: &[u16]) {
+    io::write_all(1, name);
+    let mut i: usize = 0;
+    while i < list.len() {
+        io::write_all(1, b" ");
+        say_number(list[i]);
+        i = i + 1;
+    }
+}
+
+fn say_byte(x: u8) {
+    io::write_all(1, b" ");
+    io::print_decimal(1, x as u64);
+}
+
+// The first `n` bytes of the cards, or as many as there are.
+pub fn say_bytes(cards: &[u8], n: usize) {
+    io::write_all(1, b" cards");
+    let mut i: usize = 0;
+    while i < n {
+        if i < cards.len() {
+            say_byte(cards[i]);
+        }
+        i = i + 1;
+    }
+    io::write_all(1, b"\n");
 }

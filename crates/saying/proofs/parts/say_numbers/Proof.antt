@@ -1,19 +1,26 @@
 use borrow.Author.Needs.{needs}
 use Prim.Native.Nat.{_-_, _≤_}
-use Rattle.paper_cards.proofs.moving.say_numbers.Statement.{statement}
-use Rattle.paper_cards.proofs.moving.say_numbers.Tie as tie
+use lib.ListN.{length}
+use Rattle.saying.proofs.parts.say_numbers.Statement.{statement}
+use Rattle.saying.proofs.parts.say_numbers.Tie as tie
 
 abbrev Inv-loop : tie.InvT-loop
-Inv-loop name list n i₀ i = i ≤ n
+Inv-loop name list i₀ t4 i = i ≤ length list
 
 abbrev μ-loop : tie.MeasureT-loop
-μ-loop name list n i₀ i = n - i
+μ-loop name list i₀ t4 i = length list - i
 
 write-all-requires : tie.Need-write-all-requires Inv-loop μ-loop
 write-all-requires c κs = search needs
 
 loop-holds : tie.Need-loop-holds Inv-loop μ-loop
 loop-holds c = search needs
+
+slice-aggregate-write-all : tie.Need-slice-aggregate-write-all Inv-loop μ-loop
+slice-aggregate-write-all c = search needs
+
+write-all-requires-2 : tie.Need-write-all-requires-2 Inv-loop μ-loop
+write-all-requires-2 c κs = search needs
 
 mul-say-number : tie.Need-mul-say-number Inv-loop μ-loop
 mul-say-number c = search needs
@@ -44,6 +51,8 @@ say-numbers-spec =
     μ-loop
     write-all-requires
     loop-holds
+    slice-aggregate-write-all
+    write-all-requires-2
     mul-say-number
     shared-slice-read-say-number
     say-number-requires
