@@ -73,28 +73,27 @@ fn full_house() {
 }
 
 fn refusals() {
+    let two = [1u16, 1];
     let places = [Job::FREE; 130];
     say_check(b"no racks", &[], &places[..0]);
     say_check(b"65 racks", &[1u16; 65], &places);
-    say_check(b"places too short", &[1, 1], &places[..3]);
-    say_check(b"places too long", &[1, 1], &places[..5]);
-    say_check(b"a spare named", &[1, 1], &[3, Job::FREE, 0, Job::FREE]);
-    say_check(b"no slot named", &[1, 1], &[4, Job::FREE, 0, Job::FREE]);
+    say_check(b"places too short", &two, &places[..3]);
+    say_check(b"places too long", &two, &places[..5]);
+    say_check(b"a spare named", &two, &[3, Job::FREE, 0, Job::FREE]);
+    say_check(b"no slot named", &two, &[4, Job::FREE, 0, Job::FREE]);
     say_check(
         b"the hand in a table",
-        &[1, 1],
+        &two,
         &[Job::HAND, Job::FREE, 0, Job::FREE],
     );
-    say_check(
-        b"a slot named twice",
-        &[1, 1],
-        &[0, Job::FREE, 0, Job::FREE],
-    );
-    say_check(b"5 behind a 6", &[1, 1], &[0, 0, Job::FREE, 1]);
+    say_check(b"a slot named twice", &two, &[0, Job::FREE, 0, Job::FREE]);
+    say_check(b"5 behind a 6", &two, &[0, 0, Job::FREE, 1]);
     say_check(b"65 racks and one too large", &[1024u16; 65], &places);
 }
 
 fn questions() {
+    let one = [2u16];
+    let settled = [0u16, Job::FREE, 1];
     let caps = [2u16, 2, 1];
     let places = [3u16, 4, Job::FREE, 0, 6, Job::FREE, 1, Job::FREE];
     say_slot(b"slot 0 of case 1", &caps, &places, 0);
@@ -107,9 +106,9 @@ fn questions() {
         &places,
         18446744073709551615,
     );
-    say_slot(b"slot 0, settled", &[2], &[0, Job::FREE, 1], 0);
-    say_slot(b"a card in a spare", &[2], &[0, Job::FREE, 1], 2);
-    say_slot(b"a slot of a bad table", &[2], &[2, Job::FREE, 1], 0);
+    say_slot(b"slot 0, settled", &one, &settled, 0);
+    say_slot(b"a card in a spare", &one, &settled, 2);
+    say_slot(b"a slot of a bad table", &one, &[2, Job::FREE, 1], 0);
     say_slot(b"a slot of no racks", &[], &places, 0);
 }
 
