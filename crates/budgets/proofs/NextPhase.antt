@@ -1,32 +1,26 @@
 -- After a phase carried whole the rows fit the new table. Assumes nothing.
 use mathlib.Core.Path.{_≡_, refl, sym, ap, _∙_}
-use mathlib.Core.Bool.{true, false}
-use mathlib.Core.List.{List, [], _∷_}
+use mathlib.Core.List.{List, []}
 use mathlib.Core.Logic.{_≢_}
-use Prim.Native.Nat.{ℕ, zero, suc, _+_, _-_, _≤_, _<_}
+use Prim.Native.Nat.{ℕ, zero, suc, _+_, _≤_, _<_}
 use native.Mathlib.Omega.{arith}
 use native.Mathlib.Decide.{ℕ-discrete, decLt}
-use lib.Dec.{ltb}
-use lib.ListN.{length, getD}
+use lib.ListN.{length}
 use borrow.Author.Tests.{eq-eqb, ne-eqb}
-use Rattle.counting.specs.Tests.{bit}
-use Rattle.counting.specs.Count.{sum}
 use Rattle.counting.specs.Lists.{Pair, table, join, matching}
 use Rattle.counting.specs.Every.{All}
 use Rattle.counting.specs.Every.All.{more, none}
 use Rattle.counting.proofs.Every.{all-map}
 use Rattle.counting.proofs.Lists.{matching-append, join-more}
-use Rattle.racks.specs.Racks.{Rack, base, slots, rackOf}
+use Rattle.racks.specs.Racks.{Rack, rackOf}
 use Rattle.racks.specs.Legal.{Legal}
-use Rattle.racks.proofs.Geometry.{base-mono, end-le}
 use Rattle.racks.proofs.Away.{on-rack}
 use Rattle.tables.specs.Tables.{Filled}
 use Rattle.phases.specs.Plan.{planFor, plan, room}
-use Rattle.phases.proofs.Plans.{Serves, plan-for-serves, plan-allowed, plan-apart}
+use Rattle.phases.proofs.Plans.{plan-for-serves, plan-allowed, plan-apart}
 use Rattle.bits.specs.Bits.{bitOn}
 use Rattle.queues.specs.Line.{headOf, tailOf, roomOf}
-use Rattle.queues.specs.Queues.{Rows, rowsOf, sent, pairsFor, Visitable, PhasePlanned}
-use Rattle.queues.specs.Openings.{Shown}
+use Rattle.queues.specs.Queues.{Rows, rowsOf, sent, Visitable, PhasePlanned}
 use Rattle.queues.specs.Ready.{Ready}
 use Rattle.queues.proofs.Stretch.{part-drop}
 use Rattle.queues.proofs.Pairing.{sent-le, pairs-long}

@@ -1,12 +1,12 @@
 -- A phase run with an allowance, from the phase planned; and its moves noted one by one. Assumes nothing.
-use mathlib.Core.Path.{_≡_, refl, sym, ap, _∙_}
+use mathlib.Core.Path.{_≡_, refl, ap, _∙_}
 use mathlib.Core.List.{List, _∷_}
 use Prim.Native.Nat.{ℕ, _+_, _*_, _-_, _≤_, _<_, min}
 use native.Mathlib.Omega.{arith}
 use native.Mathlib.Decide.{ℕ-discrete}
 use lib.ListN.{length, getD, set, take, length-take}
 use lib.Seq.{length-sets}
-use Rattle.counting.specs.Lists.{Pair, flat}
+use Rattle.counting.specs.Lists.{Pair}
 use Rattle.counting.specs.Every.{All}
 use Rattle.counting.specs.Every.All.{more}
 use Rattle.counting.proofs.Every.{all-map, all-take}

@@ -15,13 +15,13 @@ use Rattle.counting.specs.Lists.{Pair, matching}
 use Rattle.counting.proofs.Tests.{and-off-l, and-off-r, both, not-on, and-r}
 use Rattle.counting.proofs.Count.{count-cong, count-change}
 use Rattle.racks.specs.Racks.{Rack, slots, rackOf}
-use Rattle.racks.specs.Table.{free, rackTo, onRack, away, freeOn}
+use Rattle.racks.specs.Table.{free, onRack, away, freeOn}
 use Rattle.racks.specs.Legal.{Legal}
 use Rattle.racks.proofs.Geometry.{rack-lt}
 use Rattle.tables.specs.Tables.{Filled}
 use Rattle.phases.specs.Plan.{room}
 use Rattle.phases.proofs.Allowed.{Allowed}
-use Rattle.bits.specs.Bits.{isOn, marked, cleared, Topped}
+use Rattle.bits.specs.Bits.{isOn, marked, Topped}
 use Rattle.bits.proofs.Sets.{length-marked, topped-marked, topped-cleared, marked-here, marked-other, cleared-here, cleared-other, marked-beside, cleared-beside}
 use Rattle.queues.specs.Line.{queueOf, headOf, tailOf, roomOf, lowOf}
 use Rattle.queues.specs.Queued.{oneMore}

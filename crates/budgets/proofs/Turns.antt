@@ -1,8 +1,8 @@
 -- The turns of the engine: what is left of an allowance brings the table and the cards to where the whole allowance brings them. Assumes nothing.
 use mathlib.Core.Path.{_≡_, refl, ap, sym, _∙_}
-use mathlib.Core.Bool.{true, false}
+use mathlib.Core.Bool.{true}
 use mathlib.Core.List.{List, [], _++_}
-use Prim.Native.Nat.{ℕ, _+_, _-_, _*_, _^_, _≤_, _<_, min}
+use Prim.Native.Nat.{ℕ, _+_, _-_, _*_, _≤_, _<_, min}
 use native.Mathlib.Omega.{arith}
 use native.Mathlib.Decide.{decLt}
 use lib.ListN.{length, take, length-take, getD}
@@ -31,7 +31,7 @@ use Rattle.moves.specs.Phases.{budget}
 use Rattle.moves.proofs.Carry.{InTurn, in-turn-take, legal-carried, aways-carried, length-carried-cards, carried-append}
 use Rattle.moves.proofs.Phases.{aways-none, budget-none, budget-step}
 use Rattle.moves.proofs.FirstFit.{first-fit}
-use Rattle.budgets.specs.Engine.{notedLine, Runnable, PhaseRun, Going, Made}
+use Rattle.budgets.specs.Engine.{Runnable, PhaseRun, Going, Made}
 use Rattle.budgets.proofs.NextPhase.{plan-in-turn, ready-next}
 use Rattle.budgets.proofs.Shows.{noted-long}
 use Rattle.budgets.proofs.Waiting.{none-waits, some-waits}

@@ -1,15 +1,14 @@
 -- Some rack waits exactly where a card is away. Assumes nothing.
 use mathlib.Core.Path.{_≡_, refl, sym, ap, _∙_}
 use mathlib.Core.Bool.{true, false}
-use mathlib.Core.List.{List, []}
-use Prim.Native.Nat.{ℕ, _-_, _^_, _≤_, _<_}
+use mathlib.Core.List.{List}
+use Prim.Native.Nat.{ℕ, _-_, _^_, _<_}
 use native.Mathlib.Omega.{arith}
 use native.Mathlib.Decide.{decLt}
-use lib.Dec.{ltb}
 use lib.ListN.{length}
 use lib.Seq.{length-slice}
 use borrow.Author.Tests.{lt-ltb, le-ltb}
-use Rattle.counting.specs.Count.{count, select}
+use Rattle.counting.specs.Count.{count}
 use Rattle.counting.proofs.Tests.{by-test, no-way}
 use Rattle.counting.proofs.Count.{count-pos, count-zero}
 use Rattle.counting.proofs.Select.{length-select}

@@ -1,12 +1,11 @@
 -- After all slots the line and the set of free slots are the rows of the table. Assumes nothing.
 use mathlib.Core.Path.{_≡_, sym, ap, _∙_}
-use mathlib.Core.Bool.{Bool, true, false}
 use mathlib.Core.List.{List}
 use Prim.Native.Nat.{ℕ, suc, _+_, _^_, _≤_, _<_}
 use native.Mathlib.Omega.{arith}
 use native.Mathlib.Decide.{ℕ-discrete, decLt}
 use lib.Dec.{ltb}
-use lib.ListN.{length, getD, set}
+use lib.ListN.{length, set}
 use lib.Seq.{getD-set-same}
 use borrow.Author.Tests.{le-ltb}
 use Rattle.counting.specs.Tests.{pick}
@@ -27,7 +26,7 @@ use Rattle.queues.specs.Openings.{Opened, Shown}
 use Rattle.queues.specs.Ready.{Ready}
 use Rattle.queues.proofs.Line.{queue-long}
 use Rattle.queues.proofs.OpenSlots.{opens-roomy}
-use Rattle.queues.proofs.Fits.{tailAt, tail-up, tail-room}
+use Rattle.queues.proofs.Fits.{tail-up, tail-room}
 use Rattle.queues.proofs.Queueing.{Tabled, Queueing}
 
 -- a job that is open, with its table and each slot's rack

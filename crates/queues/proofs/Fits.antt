@@ -4,7 +4,6 @@ use mathlib.Core.Bool.{true, false}
 use mathlib.Core.List.{List}
 use Prim.Native.Nat.{ℕ, suc, _+_, _-_, _≤_, _<_}
 use native.Mathlib.Omega.{arith}
-use lib.ListN.{length}
 use borrow.Author.Tests.{ltb-true}
 use Rattle.counting.specs.Count.{count}
 use Rattle.counting.proofs.Count.{pigeonhole, count-all, count-none, count-on, count-off}

@@ -2,7 +2,7 @@
 use mathlib.Core.Path.{_≡_, refl, sym, ap, _∙_}
 use mathlib.Core.Bool.{true, false}
 use mathlib.Core.List.{List, [], _++_, append-nil}
-use Prim.Native.Nat.{ℕ, zero, suc, _+_, _*_, _-_, _^_, _≤_, _<_}
+use Prim.Native.Nat.{ℕ, zero, suc, _+_, _*_, _^_, _≤_, _<_}
 use native.Mathlib.Omega.{arith}
 use native.Mathlib.Numerals.{add-one}
 use native.Mathlib.Decide.{ℕ-discrete, decLe}
@@ -16,13 +16,13 @@ use Rattle.counting.proofs.Tests.{by-test, no-way}
 use Rattle.counting.proofs.Select.{sum-mono, sum-more}
 use Rattle.counting.proofs.Lists.{join-more, length-join}
 use Rattle.counting.proofs.Stores.{length-flat, flat-append, sets-append, sets-flat-none}
-use Rattle.bits.specs.Bits.{bitOn, turnedOff, Topped, Next}
+use Rattle.bits.specs.Bits.{bitOn, turnedOff, Next}
 use Rattle.bits.proofs.Words.{turned-off-here, turned-off-other}
 use Rattle.bits.proofs.Sets.{beside-kept, topped-beside}
 use Rattle.queues.specs.Line.{headOf, tailOf}
-use Rattle.queues.specs.Queues.{Rows, rowsOf, sent, pairsFor, queuedPlan, Visitable, Bounded, visited, Visited, Passed, Plannable, PhasePlanned}
+use Rattle.queues.specs.Queues.{Rows, rowsOf, sent, pairsFor, queuedPlan, Visitable, visited, Visited, Passed, Plannable, PhasePlanned}
 use Rattle.queues.proofs.Line.{visited-long, visited-queue, visited-head, visited-room, visited-heads, visited-tails, visited-rooms, visited-lows}
-use Rattle.queues.proofs.Pairing.{sent-le, pairs-long, pairs-none}
+use Rattle.queues.proofs.Pairing.{pairs-long, pairs-none}
 
 module _ (rows : Rows) where
   -- the plan of no racks

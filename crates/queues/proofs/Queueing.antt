@@ -1,5 +1,5 @@
 -- The pass that fills the queues: after g slots each rack's queue has the slots of the cards away to it among these. Assumes nothing.
-use mathlib.Core.Path.{_≡_, refl, sym, ap, _∙_}
+use mathlib.Core.Path.{_≡_, refl, sym, _∙_}
 use mathlib.Core.Bool.{true, false}
 use mathlib.Core.List.{List}
 use mathlib.Core.Logic.{_≢_}
@@ -7,16 +7,15 @@ use Prim.Native.Nat.{ℕ, suc, _+_, _≤_, _<_}
 use native.Mathlib.Omega.{arith}
 use native.Mathlib.Decide.{ℕ-discrete, decLt}
 use lib.ListN.{length, getD, set}
-use Rattle.counting.specs.Tests.{bit}
 use Rattle.counting.specs.Count.{select}
 use Rattle.counting.proofs.Tests.{by-test, off, no-way}
 use Rattle.counting.proofs.Select.{select-on, select-off}
-use Rattle.racks.specs.Racks.{Rack, base, slots}
+use Rattle.racks.specs.Racks.{Rack, slots}
 use Rattle.racks.specs.Table.{away, awayTo}
 use Rattle.racks.proofs.Geometry.{end-le}
 use Rattle.racks.specs.Legal.{Legal}
 use Rattle.racks.proofs.Away.{away-held, to-away, to-rack, to-is}
-use Rattle.tables.specs.Tables.{target, awayBy, Filled}
+use Rattle.tables.specs.Tables.{target, Filled}
 use Rattle.tables.proofs.Targets.{here-lt, target-is, target-lt, named-lt, away-by}
 use Rattle.queues.specs.Line.{queueOf, headOf, tailOf, roomOf, lowOf}
 use Rattle.queues.specs.Queues.{part}

@@ -1,20 +1,19 @@
 -- Rows that fit the table give the plan of the phase. Assumes nothing.
-use mathlib.Core.Path.{_≡_, refl, sym, ap, _∙_}
+use mathlib.Core.Path.{_≡_, ap, _∙_}
 use mathlib.Core.List.{List, [], _++_, append-nil}
 use Prim.Native.Nat.{ℕ, zero, suc, _+_, _-_, _≤_, _<_, min}
 use native.Mathlib.Omega.{arith}
-use native.Mathlib.Nat.{add-suc, add-zero}
-use native.Mathlib.Numerals.{add-one}
+use native.Mathlib.Nat.{add-zero}
 use native.Mathlib.Decide.{decLe}
 use lib.ListN.{length, take, length-take}
 use lib.Seq.{take-all, length-slice}
 use Rattle.counting.specs.Lists.{table, join, pairUp}
 use Rattle.counting.proofs.Lists.{length-table, getD-table, table-is}
 use Rattle.counting.proofs.Pairs.{pairUp-front, pairUp-take}
-use Rattle.racks.specs.Racks.{Rack, slots}
+use Rattle.racks.specs.Racks.{Rack}
 use Rattle.phases.specs.Plan.{planFor, plan, openSlots}
 use Rattle.phases.proofs.Grants.{plan-for-is}
-use Rattle.queues.specs.Queues.{Rows, rowsOf, PhasePlanned, Written, part, opens, served, sent, pairsFor, queuedPlan}
+use Rattle.queues.specs.Queues.{Rows, rowsOf, PhasePlanned, Written, part, served, sent, pairsFor, queuedPlan}
 use Rattle.queues.specs.Ready.{Ready}
 use Rattle.queues.proofs.Stretch.{part-take}
 use Rattle.queues.proofs.Pairing.{pairs-none, sent-le}

@@ -1,5 +1,5 @@
 -- A queue's stretch of the list: one slot more at its end, and a store elsewhere. Assumes nothing.
-use mathlib.Core.Path.{_≡_, refl, sym, ap, _∙_}
+use mathlib.Core.Path.{_≡_, sym, ap, _∙_}
 use mathlib.Core.List.{List, [], _∷_, _++_}
 use Prim.Native.Nat.{ℕ, zero, suc, _+_, _≤_, _<_}
 use native.Mathlib.Nat.{zero-add, suc-add}
@@ -7,7 +7,7 @@ use native.Mathlib.Omega.{arith}
 use native.Mathlib.Numerals.{add-one}
 use native.Mathlib.Decide.{decLe}
 use lib.ListN.{length, take, drop, set}
-use lib.Seq.{length-take-le, drop-append-le, take-suc-set, take-set-le, take-set-lt, drop-set-lt, slice-empty, take-nil, drop-nil, take-take, drop-drop}
+use lib.Seq.{length-take-le, drop-append-le, take-suc-set, take-set-le, take-set-lt, drop-set-lt, slice-empty, take-nil, take-take, drop-drop}
 use Rattle.queues.specs.Queues.{part}
 
 -- a queue that ends where it begins is empty

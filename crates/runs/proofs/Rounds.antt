@@ -2,12 +2,12 @@
 use mathlib.Core.Path.{_≡_, refl, ap, sym, subst, _∙_}
 use mathlib.Core.Bool.{true, false}
 use mathlib.Core.List.{List, [], _∷_, _++_, append-nil, append-assoc}
-use Prim.Native.Nat.{ℕ, zero, suc, _+_, _-_, _*_, _/_, _%_, _≤_, _<_, min}
+use Prim.Native.Nat.{ℕ, _+_, _-_, _*_, _/_, _%_, _≤_, _<_}
 use native.Mathlib.Omega.{arith}
 use native.Mathlib.Decide.{ℕ-discrete}
 use lib.ListN.{length, take, drop, getD, set, length-set, length-append}
 use lib.Seq.{sets, take-all, take-at, take-append-le, take-set-le, length-take-le, length-sets, sets-eq, getD-set-same, getD-set-other}
-use borrow.Author.Tests.{lt-ltb, eqb-true, ne-eqb, eq-eqb}
+use borrow.Author.Tests.{lt-ltb, eq-eqb}
 use Rattle.counting.specs.Lists.{Pair, join, matching, flat}
 use Rattle.counting.specs.Every.{All}
 use Rattle.counting.specs.Every.All.{more, none}
@@ -17,9 +17,8 @@ use Rattle.counting.proofs.Some.{some-hit}
 use Rattle.counting.proofs.Lists.{join-append, matching-append}
 use Rattle.counting.proofs.Stores.{length-flat, flat-append, sets-else}
 use Rattle.racks.specs.Racks.{Rack, slots, rackOf}
-use Rattle.racks.specs.Table.{dest, rackTo, away, awayTo, bound, owes, aways}
+use Rattle.racks.specs.Table.{dest, rackTo, away, bound, owes}
 use Rattle.racks.specs.Numbers.{someAway}
-use Rattle.racks.specs.Legal.{Legal}
 use Rattle.racks.specs.Job.{racksOf}
 use Rattle.racks.specs.declared.Job.{Job}
 use Rattle.racks.proofs.Geometry.{rack-lt}
@@ -29,25 +28,24 @@ use Rattle.answers.specs.declared.Tally.{Tally}
 use Rattle.answers.specs.Answers.{noCounts, plusPhase}
 use Rattle.phases.specs.Plan.{plan}
 use Rattle.phases.proofs.Plans.{plan-aways}
-use Rattle.bits.specs.Bits.{Next}
 use Rattle.plans.specs.Owed.{cell, Owed}
-use Rattle.queues.specs.Queues.{rowsOf, queuedPlan}
+use Rattle.queues.specs.Queues.{rowsOf}
 use Rattle.queues.proofs.Ready.{ready-plan}
 use Rattle.moves.specs.Moves.{carriedPlaces, carriedCards, between, Held, carried}
 use Rattle.moves.specs.Phases.{phases}
 use Rattle.moves.specs.Parts.{pairsIn}
 use Rattle.moves.proofs.Flat.{pairs-all}
-use Rattle.moves.proofs.Carry.{InTurn, in-turn-append, carried-append, legal-carried}
+use Rattle.moves.proofs.Carry.{InTurn, in-turn-append, carried-append}
 use Rattle.moves.proofs.Carry.InTurn.{stop}
-use Rattle.moves.proofs.Phases.{HasPair, some-away, aways-some, aways-none, phases-none, phases-step, phases-pairs, phases-moves, Planner}
+use Rattle.moves.proofs.Phases.{HasPair, some-away, aways-some, phases-none, phases-step, phases-pairs, phases-moves, Planner}
 use Rattle.moves.proofs.FirstFit.{first-fit}
 use Rattle.budgets.specs.Engine.{Runnable, PhaseRun}
 use Rattle.budgets.proofs.NextPhase.{plan-in-turn}
-use Rattle.budgets.proofs.Turns.{Fixed, Turn, tally-is, going-fixed, turn-first, turn-runnable, turn-more, turn-next, held-is, moves-are}
+use Rattle.budgets.proofs.Turns.{Turn, tally-is, going-fixed, turn-first, turn-runnable, turn-more, turn-next, held-is, moves-are}
 use Rattle.runs.specs.Run.{hasPairs, gathered}
 use Rattle.runs.specs.Awaits.{awaits}
-use Rattle.runs.specs.Kept.{Payable, Paid, paid, Awaited, owing}
-use Rattle.runs.specs.Gathered.{phaseCounts, Logged, Round, Rounding, RoundMade, Set, PhasesMade}
+use Rattle.runs.specs.Kept.{Payable, Paid, Awaited, owing}
+use Rattle.runs.specs.Gathered.{phaseCounts, Logged, Round, Set, PhasesMade}
 use Rattle.runs.proofs.Owing.{owed-paid, owed-payable, awaited-is, awaited-owed}
 
 -- plans that all have pairs are counted whole
