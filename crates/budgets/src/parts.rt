@@ -70,7 +70,8 @@ pub fn run_phase(
 {
     let low = 2 * tally.moves;
     let planned = planning::plan_phase(line, bits, log, low);
-    let made = planning::smaller(planned, k - tally.moves);
+    let left = k - tally.moves;
+    let made = planning::smaller(planned, left);
     let high = low + 2 * made;
     let after = moves::parts::carry(log, low, high, places, cards, b, tally);
     note_moves(log, low, high, racking, line, bits);

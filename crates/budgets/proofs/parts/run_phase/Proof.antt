@@ -11,8 +11,8 @@ mul-low c = search needs
 plan-phase-requires : tie.Need-plan-phase-requires
 plan-phase-requires c κs = search needs
 
-sub-smaller : tie.Need-sub-smaller
-sub-smaller c = search needs
+sub-left : tie.Need-sub-left
+sub-left c = search needs
 
 smaller-requires : tie.Need-smaller-requires
 smaller-requires c κs = search needs
@@ -56,7 +56,7 @@ run-phase-spec =
     (tie.spec
     mul-low
     plan-phase-requires
-    sub-smaller
+    sub-left
     smaller-requires
     mul-high
     add-high
