@@ -4,53 +4,50 @@ use mathlib.Core.List.{List, _++_}
 use Prim.Native.Nat.{ℕ, _*_, _≤_}
 use native.Mathlib.Omega.{arith}
 use lib.ListN.{length}
-use Rattle.counting.specs.Checks.{first}
 use Rattle.counting.proofs.Lists.{length-table}
 use Rattle.counting.proofs.Stores.{length-flat}
-use Rattle.racks.specs.Racks.{Rack, slots}
-use Rattle.racks.specs.Numbers.{tableChecks}
-use Rattle.racks.specs.Job.{racksOf, Sound}
-use Rattle.racks.specs.declared.Job.{Job}
-use Rattle.racks.proofs.LegalTable.{legal as legal-table}
 use Rattle.answers.specs.declared.Tally.{Tally}
+use Rattle.racks.specs.Racks.{Rack, slots}
 use Rattle.racks.specs.Legal.{Legal, Spared}
+use Rattle.racks.specs.Job.{racksOf}
+use Rattle.racks.specs.declared.Job.{Job}
+use Rattle.racks.proofs.Away.{aways-few}
+use Rattle.tables.specs.Tables.{Open}
 use Rattle.moves.specs.Moves.{Held}
 use Rattle.moves.specs.Phases.{phases}
 use Rattle.moves.specs.Parts.{held, pairsIn}
 use Rattle.moves.proofs.Flat.{pairs-all}
+use Rattle.moves.proofs.Phases.{phases-pairs, phases-moves}
+use Rattle.moves.proofs.FirstFit.{first-fit}
 use Rattle.copies.specs.Copies.{copyList}
 use Rattle.copies.specs.Chains.{Chained}
-use Rattle.copies.specs.Writes.{putCopies, AllWritten}
+use Rattle.copies.specs.Writes.{putCopies}
 use Rattle.copies.proofs.Costs.{list-most}
 use Rattle.copies.proofs.Writing.{length-put-copies}
 use Rattle.shuffle.specs.Shuffle.{settledHeld}
 use Rattle.shuffle.specs.Hands.{Shuffled}
 use Rattle.runs.specs.Run.{gathered, counts}
-use Rattle.runs.specs.Gathered.{Ran}
-use Rattle.runs.proofs.Ending.{ends-chained, ends-long, ends-ran}
+use Rattle.runs.specs.Gathered.{LOG, phaseCounts, PhasesMade, Ran}
+use Rattle.runs.proofs.Rounds.{all-counted, all-few}
+use Rattle.runs.proofs.Ending.{ends-chained, ends-long, ends-none, ends-ran}
 use Rattle.texts.specs.Lines.{phaseLines, copiesLine, cardsLine, endLine}
-use Rattle.listed.specs.RunText.{runText}
 use Rattle.texts.specs.Writing.{Room, Wrote}
-use Rattle.listed.specs.Parts.{PhasesPut}
-use Rattle.listed.specs.declared.parts.phasing.Phased.{Phased}
 use Rattle.texts.proofs.Writing.{room-first, room-next, wrote-then}
+use Rattle.listed.specs.RunText.{runText}
+use Rattle.listed.specs.Parts.{phasesIn, Readable}
+use Rattle.listed.proofs.Phasing.{logged-phases, logged-readable}
 use Rattle.listed.proofs.Settled.{settled-long}
 
--- the copy list in the library's own array
-module _ {places list after : List ℕ} {count : ℕ} (ok : Chained places) (w : AllWritten places list count after) (long : length list ≡ 12288) where
-  -- it keeps its length
-  pub copies-array : length after ≡ 12288
-  copies-array = ap length (w .list-is) ∙ length-put-copies list 0 (copyList places) ∙ long
+-- the copy list in a lent list
+module _ (places list after : List ℕ) (fits : 2 * length (copyList places) ≤ length list) (e : after ≡ putCopies list 0 (copyList places)) where
+  -- which keeps its length
+  pub copies-long : length after ≡ length list
+  copies-long = ap length e ∙ length-put-copies list 0 (copyList places)
 
-  -- it fits
-  pub copies-fit : 2 * count ≤ 12288
-  copies-fit = omega (arith, w .count-is, list-most ok, ok .small)
-
-  -- its copies, as they stand in the array
-  pub copies-read : pairsIn after 0 (2 * count) ≡ copyList places
+  -- its copies, as they stand there
+  pub copies-read : (n : ℕ) → n ≡ length (copyList places) → pairsIn after 0 (2 * n) ≡ copyList places
   unfolding putCopies
-  copies-read =
-      pairs-all after list 0 (2 * count) (copyList places) (w .list-is) (omega (arith, length-flat (copyList places), w .count-is)) (omega (arith, copies-fit))
+  copies-read n en = pairs-all after list 0 (2 * n) (copyList places) e (omega (arith, length-flat (copyList places))) (omega arith)
 
 -- a legal job, and room for the text of its run
 pub record Runs (racks : List Rack) (b : ℕ) (h : Held) (out : List ℕ) : Type 0 where
@@ -61,9 +58,9 @@ pub record Runs (racks : List Rack) (b : ℕ) (h : Held) (out : List ℕ) : Type
   pub room : Room (runText racks b h) 0 out
 
 -- by the job
-pub runs-first : (job : Job) (b : ℕ) (h : Held) (out : List ℕ) → Sound job → first (tableChecks (racksOf job) (h .places)) ≡ 0
+pub runs-first : {job : Job} {b : ℕ} {h : Held} {out racking : List ℕ} → Open job (h .places) racking → Spared (racksOf job)
     → length (h .cards) ≡ slots (racksOf job) * b → Room (runText (racksOf job) b h) 0 out → Runs (racksOf job) b h out
-runs-first job b h out sound z long room = record { legal = legal-table (racksOf job) (h .places) z; spared = sound .spared; small = sound .small; long = long; room = room }
+runs-first o spared long room = record { legal = o .legal; spared = spared; small = o .sound .small; long = long; room = room }
 
 -- the parts of that text, each behind the one before it
 module _ {racks : List Rack} {b : ℕ} {h : Held} {out : List ℕ} (r : Runs racks b h out) where
@@ -90,62 +87,89 @@ module _ {racks : List Rack} {b : ℕ} {h : Held} {out : List ℕ} (r : Runs rac
   pub phases-room : Room (phaseLines 1 (phases racks (h .places))) 0 out
   phases-room = room-first phases-part copies-part out 0 two-room
 
-  module _ {h₁ : Held} {out₁ : List ℕ} {m : Phased} (p : PhasesPut racks b h h₁ out out₁ m) where
+  module _ {h₁ : Held} {t : Tally} {log : List ℕ} (p : PhasesMade racks b h h₁ t log) where
+    -- the phases are counted
+    count-is : t .phases ≡ length (phases racks (h .places))
+    unfolding phaseCounts
+    count-is = ap (λ (x : Tally). x .phases) (p .tally-is) ∙ all-counted (phases-pairs (first-fit (r .spared)) (r .legal))
+
+    -- and can be read from the log
+    pub put-readable : LOG ≤ length log → Readable (t .phases) log
+    put-readable l =
+        let fit = first-fit (r .spared) in
+        let m = phases-moves fit (r .legal) in
+        let a = aways-few racks (h .places) in
+        logged-readable (p .logged) (t .phases) count-is (omega (arith, count-is, all-few (phases-pairs fit (r .legal)), m, a, r .small)) (omega (arith, m, a, r .small)) l
+
+    read-is : phaseLines 1 (phasesIn (t .phases) log) ≡ phases-part
+    read-is = ap (phaseLines 1) (logged-phases (p .logged) (t .phases) count-is)
+
+    pub read-room : Room (phaseLines 1 (phasesIn (t .phases) log)) 0 out
+    read-room = rw read-is phases-room
+
     -- what they leave can be shuffled
     pub put-chained : Chained (h₁ .places)
-    put-chained = ends-chained racks b h (r .legal) (r .spared) (r .small) (r .long) h₁ (m .tally) (p .made)
+    put-chained = ends-chained racks b h (r .legal) (r .spared) (r .small) (r .long) h₁ t log p
 
     -- with cards for all slots
     pub put-long : length (h₁ .cards) ≡ length (h₁ .places) * b
-    put-long = ends-long racks b h (r .legal) (r .spared) (r .small) (r .long) h₁ (m .tally) (p .made)
+    put-long = ends-long racks b h (r .legal) (r .spared) (r .small) (r .long) h₁ t log p
+
+    pub put-none : t .copies ≡ 0
+    put-none = ends-none racks b h (r .legal) (r .spared) (r .small) (r .long) h₁ t log p
+
+    -- the log has room for the copy list
+    pub put-fits : 2 * length (copyList (h₁ .places)) ≤ LOG
+    put-fits = omega (arith, list-most put-chained, put-chained .small)
 
     copies-are : copiesLine (copyList (h₁ .places)) ≡ copies-part
-    copies-are = ap (λ (x : Held). copiesLine (copyList (x .places))) (p .made .held-is)
+    copies-are = ap (λ (x : Held). copiesLine (copyList (x .places))) (p .held-is)
 
-    -- the copies
-    pub copies-room : Room (copiesLine (copyList (h₁ .places))) (m .place) out₁
-    copies-room = rw copies-are (room-next copies-part (p .wrote) two-room)
+    module _ {out₁ : List ℕ} {p₁ : ℕ} (w₁ : Wrote (phaseLines 1 (phasesIn (t .phases) log)) out 0 out₁ p₁) where
+      one-wrote : Wrote phases-part out 0 out₁ p₁
+      one-wrote = rw read-is at w₁
 
-    module _ {out₂ : List ℕ} {p₂ : ℕ} (w₂ : Wrote (copiesLine (copyList (h₁ .places))) out₁ (m .place) out₂ p₂)
-        {count : ℕ} {places′ cards′ : List ℕ} (s : Shuffled b (h₁ .places) (h₁ .cards) count places′ cards′) where
-      two-wrote : Wrote (phases-part ++ copies-part) out 0 out₂ p₂
-      two-wrote = wrote-then (p .wrote) (rw copies-are at w₂)
+      -- the copies
+      pub copies-room : Room (copiesLine (copyList (h₁ .places))) p₁ out₁
+      copies-room = rw copies-are (room-next copies-part one-wrote two-room)
 
-      ended : Ran racks b h (held places′ cards′) (record { phases = m .tally .phases; moves = m .tally .moves; copies = count })
-      ended = ends-ran racks b h (r .legal) (r .spared) (r .small) (r .long) h₁ (m .tally) (p .made) count places′ cards′ s
+      module _ {out₂ : List ℕ} {p₂ : ℕ} (w₂ : Wrote (copiesLine (copyList (h₁ .places))) out₁ p₁ out₂ p₂)
+          {after : Tally} {places′ cards′ : List ℕ} (s : Shuffled b (h₁ .places) (h₁ .cards) t after places′ cards′) where
+        two-wrote : Wrote (phases-part ++ copies-part) out 0 out₂ p₂
+        two-wrote = wrote-then one-wrote (rw copies-are at w₂)
 
-      places-long : length places′ ≡ slots racks
-      unfolding settledHeld
-      places-long = ap (λ (x : Held). length (x .places)) (ended .held-is) ∙ length-table (slots racks) _
+        ended : Ran racks b h (held places′ cards′) after
+        ended = ends-ran racks b h (r .legal) (r .spared) (r .small) (r .long) h₁ t log p after places′ cards′ s
 
-      -- the cards at the end are B bytes for each slot
-      pub last-long : length cards′ ≡ length places′ * b
-      last-long =
-          ap (λ (x : Held). length (x .cards)) (ended .held-is) ∙ settled-long racks b h (r .legal) (r .spared) (r .small) (r .long) ∙ ap (λ (n : ℕ). n * b) (sym places-long)
+        places-long : length places′ ≡ slots racks
+        unfolding settledHeld
+        places-long = ap (λ (x : Held). length (x .places)) (ended .held-is) ∙ length-table (slots racks) _
 
-      cards-are : cardsLine (length places′) b cards′ ≡ cards-part
-      cards-are = rw places-long (ap (λ (x : Held). cardsLine (slots racks) b (x .cards)) (ended .held-is))
+        -- the cards at the end are B bytes for each slot
+        pub last-long : length cards′ ≡ length places′ * b
+        last-long =
+            ap (λ (x : Held). length (x .cards)) (ended .held-is) ∙ settled-long racks b h (r .legal) (r .spared) (r .small) (r .long) ∙ ap (λ (n : ℕ). n * b) (sym places-long)
 
-      -- the cards
-      pub cards-room : Room (cardsLine (length places′) b cards′) p₂ out₂
-      cards-room = rw cards-are (room-next cards-part two-wrote three-room)
+        cards-are : cardsLine (length places′) b cards′ ≡ cards-part
+        cards-are = rw places-long (ap (λ (x : Held). cardsLine (slots racks) b (x .cards)) (ended .held-is))
 
-      module _ {out₃ : List ℕ} {p₃ : ℕ} (w₃ : Wrote (cardsLine (length places′) b cards′) out₂ p₂ out₃ p₃) where
-        abbrev tally : Tally
-        tally = record { phases = m .tally .phases; moves = m .tally .moves; copies = count }
+        -- the cards
+        pub cards-room : Room (cardsLine (length places′) b cards′) p₂ out₂
+        cards-room = rw cards-are (room-next cards-part two-wrote three-room)
 
-        three-wrote : Wrote (phases-part ++ copies-part ++ cards-part) out 0 out₃ p₃
-        three-wrote = wrote-then two-wrote (rw cards-are at w₃)
+        module _ {out₃ : List ℕ} {p₃ : ℕ} (w₃ : Wrote (cardsLine (length places′) b cards′) out₂ p₂ out₃ p₃) where
+          three-wrote : Wrote (phases-part ++ copies-part ++ cards-part) out 0 out₃ p₃
+          three-wrote = wrote-then two-wrote (rw cards-are at w₃)
 
-        end-is : endLine tally ≡ end-part
-        end-is = ap endLine (ended .tally-is)
+          end-is : endLine after ≡ end-part
+          end-is = ap endLine (ended .tally-is)
 
-        -- the end
-        pub end-room : Room (endLine tally) p₃ out₃
-        unfolding runText
-        end-room = rw end-is (room-next end-part three-wrote (r .room))
+          -- the end
+          pub end-room : Room (endLine after) p₃ out₃
+          unfolding runText
+          end-room = rw end-is (room-next end-part three-wrote (r .room))
 
-        -- all of it is written
-        pub run-wrote : {out₄ : List ℕ} {p₄ : ℕ} → Wrote (endLine tally) out₃ p₃ out₄ p₄ → Wrote (runText racks b h) out 0 out₄ p₄
-        unfolding runText
-        run-wrote w₄ = wrote-then three-wrote (rw end-is at w₄)
+          -- all of it is written
+          pub run-wrote : {out₄ : List ℕ} {p₄ : ℕ} → Wrote (endLine after) out₃ p₃ out₄ p₄ → Wrote (runText racks b h) out 0 out₄ p₄
+          unfolding runText
+          run-wrote w₄ = wrote-then three-wrote (rw end-is at w₄)

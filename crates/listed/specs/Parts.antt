@@ -1,15 +1,28 @@
--- What the inner functions promise. Assumes nothing: these are definitions.
+-- The phases of a run, as its log has them. Assumes nothing: these are definitions.
 use mathlib.Core.List.{List}
-use Prim.Native.Nat.{ℕ}
-use Rattle.racks.specs.Racks.{Rack}
-use Rattle.moves.specs.Moves.{Held}
-use Rattle.moves.specs.Phases.{phases}
-use Rattle.runs.specs.Gathered.{PhasesMade}
-use Rattle.texts.specs.Lines.{phaseLines}
-use Rattle.texts.specs.Writing.{Wrote}
-use Rattle.listed.specs.declared.parts.phasing.Phased.{Phased}
+use Prim.Native.Nat.{ℕ, zero, suc, _+_, _*_, _≤_, _<_}
+use lib.ListN.{length, getD}
+use Rattle.counting.specs.Lists.{Pair, table}
+use Rattle.racks.specs.Limits.{SLOTS}
+use Rattle.moves.specs.Parts.{pairsIn}
+use Rattle.runs.specs.Gathered.{ENDS, LOG}
 
--- all phases made, and their lines written from the front of the buffer
-pub record PhasesPut (racks : List Rack) (b : ℕ) (h h′ : Held) (before after : List ℕ) (r : Phased) : Type 0 where
-  pub made : PhasesMade racks b h h′ (r .tally)
-  pub wrote : Wrote (phaseLines 1 (phases racks (h .places))) before 0 after (r .place)
+-- how many moves were made before phase j
+unfoldable pub madeBefore : List ℕ → ℕ → ℕ
+madeBefore log zero = 0
+madeBefore log (suc j) = getD log (ENDS + j) 0
+
+-- the pairs of phase j
+unfoldable pub phaseIn : List ℕ → ℕ → List Pair
+phaseIn log j = pairsIn log (2 * madeBefore log j) (2 * madeBefore log (suc j))
+
+-- the first n phases
+unfoldable pub phasesIn : ℕ → List ℕ → List (List Pair)
+phasesIn n log = table n (phaseIn log)
+
+-- the first n phases can be read: none ends before it begins, and all their pairs stand before the ends
+pub record Readable (n : ℕ) (log : List ℕ) : Type 0 where
+  pub few : n ≤ SLOTS
+  pub long : LOG ≤ length log
+  pub rising : (j : ℕ) → j < n → madeBefore log j ≤ madeBefore log (suc j)
+  pub within : (j : ℕ) → j < n → madeBefore log (suc j) ≤ SLOTS

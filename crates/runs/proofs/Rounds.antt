@@ -55,7 +55,7 @@ all-counted none = refl
 all-counted (more {x} h r) = rw (lt-ltb 0 (length x) h) (omega (arith, all-counted r))
 
 -- and are no more than their pairs
-all-few : {ps : List (List Pair)} → All HasPair ps → length ps ≤ length (join ps)
+pub all-few : {ps : List (List Pair)} → All HasPair ps → length ps ≤ length (join ps)
 unfolding join
 all-few none = omega arith
 all-few (more {x} {l} h r) = omega (arith, all-few r, length-append x (join l))

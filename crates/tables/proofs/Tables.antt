@@ -9,10 +9,10 @@ use native.Mathlib.Decide.{ℕ-discrete}
 use lib.Dec.{eqb}
 use lib.ListN.{length}
 use lib.Seq.{sets}
-use borrow.Author.Tests.{eq-eqb, ne-eqb, lt-ltb, le-ltb}
+use borrow.Author.Tests.{eq-eqb, ne-eqb, eqb-true, lt-ltb, le-ltb, ltb-false}
 use Rattle.counting.specs.Tests.{_or_, pick}
 use Rattle.counting.specs.Checks.{Check, first, refusal, done}
-use Rattle.counting.proofs.Tests.{or-l, or-r, or-none, or-false}
+use Rattle.counting.proofs.Tests.{or-l, or-r, or-none, or-false, or-off-l, or-off-r, not-off-is}
 use Rattle.counting.proofs.Checks.{Marked, first-here, first-later, first-off, first-join, first-refusal, refusal-here, refusal-past, refusal-none}
 use Rattle.counting.proofs.Checks.Marked.{more, none}
 use Rattle.answers.specs.Answers.{answer, noCounts, listed}
@@ -26,7 +26,7 @@ use Rattle.racks.proofs.Legal.{racks-good, checks-racks, checks-places, checks-
 use Rattle.racks.proofs.LegalTable.{places-legal}
 use Rattle.tables.specs.Check.{checked}
 use Rattle.tables.specs.Marks.{entriesNumber}
-use Rattle.tables.specs.Tables.{Filled, Checked, CardsChecked, tableNumber, cardsNumber, checkedBy}
+use Rattle.tables.specs.Tables.{Filled, OpenCards, Checked, CardsChecked, tableNumber, cardsNumber, checkedBy}
 
 module _ (job : Job) (places : List ℕ) where
   -- past what the racks are refused with
@@ -112,6 +112,21 @@ module _ (job : Job) (b : ℕ) (places cards : List ℕ) where
       let a = first-off (eqb (job .refused) 1) 1 _ (λ e. omega arith) z in
       let c = first-off (badBytes b) 2 _ (λ e. omega arith) (a .1) in
       refusal-none (job .refused) _ (c .1)
+
+  -- and is accepted
+  pub cards-open : Fit job → (racking : List ℕ) → Filled (racksOf job) racking → cardsNumber job b places cards ≡ 0 → OpenCards job b places cards racking
+  unfolding cardsNumber badBytes badCards placesChecks
+  cards-open fit racking filled z =
+      let k = racksOf job in
+      let r = cards-racks z in
+      let a = first-off (eqb (job .refused) 1) 1 _ (λ e. omega arith) z in
+      let c = first-off (badBytes b) 2 _ (λ e. omega arith) (a .1) in
+      let d = first-off (badPlaces k places or badCards k b cards) 4 _ (λ e. omega arith) (sym (refusal-past (job .refused) _ r) ∙ c .1) in
+      record {
+        table = record { sound = fit r; legal = places-legal k places (first-later _ 4 _ (or-off-l _ (d .0)) ∙ d .1); filled = filled };
+        bytes = ltb-false 256 b (or-off-r (eqb b 0) (c .0));
+        long = eqb-true (length cards) (slots k * b) (not-off-is (or-off-r (badPlaces k places) (d .0)));
+      }
 
 -- B, by the code's tests
 pub bytes-none : (b : ℕ) → b ≡ 0 → badBytes b ≡ true

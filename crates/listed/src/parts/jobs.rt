@@ -4,9 +4,10 @@ ghost use Prim.Native.Nat.{_*_, _≤_};
 ghost use lib.ListN.{length};
 ghost use Rattle.counting.specs.Checks.{first};
 ghost use Rattle.racks.specs.Racks.{ofCaps, slots};
-ghost use Rattle.racks.specs.Numbers.{tableChecks, cardChecks};
-ghost use Rattle.racks.specs.Job.{racksOf, Sound};
-ghost use Rattle.tables.specs.Tables.{Filled};
+ghost use Rattle.racks.specs.Legal.{Spared};
+ghost use Rattle.racks.specs.Numbers.{cardChecks};
+ghost use Rattle.racks.specs.Job.{racksOf};
+ghost use Rattle.tables.specs.Tables.{Open};
 ghost use Rattle.moves.specs.Parts.{held};
 ghost use Rattle.copies.specs.Copies.{copyList};
 ghost use Rattle.copies.specs.Chains.{Chained};
@@ -20,38 +21,34 @@ use texts::TextAnswer;
 use texts::parts::lines;
 use texts::parts::words;
 
-// The line of the copy list of a table with nothing away.
-pub fn put_copy_list(out: &mut [u8], at: usize, places: &[u16]) -> usize
-    requires { ⌜ Chained (now places) × Room (copiesLine (copyList (now places))) at (now out) ⌝ }
+// The line of the copy list of a table with nothing away; the list is made in a lent one.
+pub fn put_copy_list(out: &mut [u8], at: usize, places: &[u16], list: &mut [u16]) -> usize
+    requires { ⌜ Chained (now places) × (2 * length (copyList (now places)) ≤ length (now list)) × Room (copiesLine (copyList (now places))) at (now out) ⌝ }
     ensures { λ r. ⌜ Wrote (copiesLine (copyList (now (places .entry)))) (now (out .entry)) at (now (out .exit)) r ⌝ }
 {
-    let mut sources = [0u16; 4096];
-    let mut list = [0u16; 12288];
-    let count = copies::parts::list_copies(places, &mut sources, &mut list);
-    lines::put_copies(out, at, &list, 2 * count)
+    let none = Tally::none();
+    let tally = copies::parts::list_copies(places, list, none);
+    lines::put_copies(out, at, list, 2 * tally.copies)
 }
 
-// The text of a run: phases, copies, cards, end.
+// The text of a run: phases, copies, cards, end. The phases are listed from the run's log, which then has room for the copy list.
 pub fn put_run(
     out: &mut [u8],
     job: Job,
     b: usize,
     places: &mut [u16],
     cards: &mut [u8],
-    table: &[u8; 4096],
+    racking: &[u8; 4096],
 ) -> usize
-    requires { ⌜ Sound job × Filled (racksOf job) (now table) × (first (tableChecks (racksOf job) (now places)) ≡ 0) × (length (now cards) ≡ slots (racksOf job) * b) × (b ≤ 256) × Room (runText (racksOf job) b (held (now places) (now cards))) 0 (now out) ⌝ }
+    requires { ⌜ Open job (now places) (now racking) × Spared (racksOf job) × (length (now cards) ≡ slots (racksOf job) * b) × (b ≤ 256) × Room (runText (racksOf job) b (held (now places) (now cards))) 0 (now out) ⌝ }
     ensures { λ r. ⌜ Wrote (runText (racksOf job) b (held (now (places .entry)) (now (cards .entry)))) (now (out .entry)) 0 (now (out .exit)) r ⌝ }
 {
-    let made = phasing::put_phases(out, job, b, places, cards, table);
-    let mut next = put_copy_list(out, made.place, places);
-    let copies = shuffle::parts::settle(b, places, cards);
+    let mut log = [0u16; 12288];
+    let made = runs::parts::make_phases(job, b, places, cards, racking, &mut log);
+    let mut next = phasing::put_phases(out, &log, made.phases);
+    next = put_copy_list(out, next, places, &mut log);
+    let tally = shuffle::parts::settle(b, places, cards, made);
     next = lines::put_cards(out, next, places.len(), b, cards);
-    let tally = Tally {
-        phases: made.tally.phases,
-        moves: made.tally.moves,
-        copies,
-    };
     lines::put_end(out, next, tally)
 }
 
@@ -63,8 +60,7 @@ pub fn put_job(out: &mut [u8], caps: &[u16], b: usize, places: &mut [u16], bytes
     let mut cards = [0u8; TextAnswer::FILE];
     let size = words::put_text(&mut cards, 0, bytes);
     let job = Job::of(caps);
-    let mut table = [0u8; 4096];
-    let mut marks = [0u8; 4096];
-    tables::parts::fill_tables(job, &mut table, &mut marks);
-    put_run(out, job, b, places, &mut cards[..size], &table)
+    let mut racking = [0u8; 4096];
+    tables::parts::fill_racking(job, &mut racking);
+    put_run(out, job, b, places, &mut cards[..size], &racking)
 }

@@ -1,9 +1,9 @@
 use mathlib.Core.Path.{refl, ap, _∙_}
 use native.Mathlib.Omega.{arith}
 use lib.ListN.{length}
-use borrow.Author.Needs.{needs}
 use Rattle.listed.proofs.Writing.{wrote-front}
-use Rattle.listed.proofs.Jobs.{job-accepted, job-racks, job-bytes}
+use Rattle.listed.proofs.Jobs.{job-sound, job-spared, job-racks, job-open}
+use borrow.Author.Needs.{needs}
 use Rattle.listed.proofs.parts.jobs.put_job.Statement.{statement}
 use Rattle.listed.proofs.parts.jobs.put_job.Tie as tie
 
@@ -16,27 +16,27 @@ put-text-requires c κs = search needs
 of-requires : tie.Need-of-requires
 of-requires c κs = search needs
 
-fill-tables-requires : tie.Need-fill-tables-requires
-fill-tables-requires c κs = let s = c .before .before .before .before .before .before .before .before .before .before in job-accepted (s .args .caps .now) _ (c .before .before .of .ensures) (s .args .b) (s .args .places .now) (s .args .bytes .now) (s .pre .0) .sound
+fill-racking-requires : tie.Need-fill-racking-requires
+fill-racking-requires c κs = (job-sound (c .before .before .before .before .before .before .before .before .before .args .caps .now) _ (c .before .of .ensures) (c .before .before .before .before .before .before .before .before .before .args .b) (c .before .before .before .before .before .before .before .before .before .args .places .now) (c .before .before .before .before .before .before .before .before .before .args .bytes .now) (c .before .before .before .before .before .before .before .before .before .pre .0), refl)
 
 array-borrow-prefix-cards : tie.Need-array-borrow-prefix-cards
 array-borrow-prefix-cards c = search needs
 
 slice-aggregate-put-run : tie.Need-slice-aggregate-put-run
-slice-aggregate-put-run c = let s = c .before .before .before .before .before .before .before .before .before .before .before .before .before .before in omega (arith, ap length (wrote-front (c .before .before .before .before .before .before .before .before .put-text .ensures) refl (omega (arith, s .pre .1))), c .before .before .before .before .before .before .before .before .put-text .ensures .behind)
+slice-aggregate-put-run c =
+    let w = c .before .before .before .before .before .before .before .put-text .ensures in
+    omega (arith, ap length (wrote-front w refl (omega (arith, c .before .before .before .before .before .before .before .before .before .before .before .before .before .pre .1))), w .behind)
 
 put-run-requires : tie.Need-put-run-requires
 put-run-requires c κs =
-    let s = c .before .before .before .before .before .before .before .before .before .before .before .before .before .before .before in
-    let a = job-accepted (s .args .caps .now) _ (c .before .before .before .before .before .before .before .of .ensures) (s .args .b) (s .args .places .now) (s .args .bytes .now) (s .pre .0) in
-    let e = job-racks (s .args .caps .now) _ (c .before .before .before .before .before .before .before .of .ensures) (s .args .b) (s .args .places .now) (s .args .bytes .now) (s .pre .0) in
-    let f = wrote-front (c .before .before .before .before .before .before .before .before .before .put-text .ensures) refl (omega (arith, s .pre .1)) in (
-      a .sound,
-      c .before .before .before .before .fill-tables .ensures .filled,
-      a .table,
-      ap length f ∙ a .cards-long,
-      job-bytes (s .args .caps .now) _ (c .before .before .before .before .before .before .before .of .ensures) (s .args .b) (s .args .places .now) (s .args .bytes .now) (s .pre .0),
-      rw (e, f) (s .pre .2),
+    let s = c .before .before .before .before .before .before .before .before .before .before .before .before .before .before in
+    let o = job-open (c .before .before .before .before .before .before .before .before .before .before .before .before .before .before .args .caps .now) _ (c .before .before .before .before .before .before .of .ensures) (c .before .before .before .before .before .before .before .before .before .before .before .before .before .before .args .b) (c .before .before .before .before .before .before .before .before .before .before .before .before .before .before .args .places .now) (c .before .before .before .before .before .before .before .before .before .before .before .before .before .before .args .bytes .now) (c .before .before .before .before .before .before .before .before .before .before .before .before .before .before .pre .0) _ (c .before .before .before .before .fill-racking .ensures) in
+    let f = wrote-front (c .before .before .before .before .before .before .before .before .put-text .ensures) refl (omega (arith, s .pre .1)) in (
+      o .table,
+      job-spared (c .before .before .before .before .before .before .before .before .before .before .before .before .before .before .args .caps .now) _ (c .before .before .before .before .before .before .of .ensures) (c .before .before .before .before .before .before .before .before .before .before .before .before .before .before .args .b) (c .before .before .before .before .before .before .before .before .before .before .before .before .before .before .args .places .now) (c .before .before .before .before .before .before .before .before .before .before .before .before .before .before .args .bytes .now) (c .before .before .before .before .before .before .before .before .before .before .before .before .before .before .pre .0),
+      ap length f ∙ o .long,
+      o .bytes,
+      rw (job-racks (c .before .before .before .before .before .before .before .before .before .before .before .before .before .before .args .caps .now) _ (c .before .before .before .before .before .before .of .ensures) (c .before .before .before .before .before .before .before .before .before .before .before .before .before .before .args .b) (c .before .before .before .before .before .before .before .before .before .before .before .before .before .before .args .places .now) (c .before .before .before .before .before .before .before .before .before .before .before .before .before .before .args .bytes .now) (c .before .before .before .before .before .before .before .before .before .before .before .before .before .before .pre .0), f) (s .pre .2),
     )
 
 same-length : tie.Need-same-length
@@ -47,10 +47,9 @@ same-length-2 c = search needs
 
 returns : tie.Need-returns
 returns c =
-    let s = c .before .before .before .before .before .before .before .before .before .before .before .before .before .before .before .before .before .before .before .before .before in
-    let e = job-racks (s .args .caps .now) _ (c .before .before .before .before .before .before .before .before .before .before .before .before .before .of .ensures) (s .args .b) (s .args .places .now) (s .args .bytes .now) (s .pre .0) in
-    let f = wrote-front (c .before .before .before .before .before .before .before .before .before .before .before .before .before .before .before .put-text .ensures) refl (omega (arith, s .pre .1)) in
-    rw (e, f) at (c .before .before .before .before .before .put-run .ensures)
+    let s = c .before .before .before .before .before .before .before .before .before .before .before .before .before .before .before .before .before .before .before .before in
+    let f = wrote-front (c .before .before .before .before .before .before .before .before .before .before .before .before .before .before .put-text .ensures) refl (omega (arith, s .pre .1)) in
+    rw (job-racks (c .before .before .before .before .before .before .before .before .before .before .before .before .before .before .before .before .before .before .before .before .args .caps .now) _ (c .before .before .before .before .before .before .before .before .before .before .before .before .of .ensures) (c .before .before .before .before .before .before .before .before .before .before .before .before .before .before .before .before .before .before .before .before .args .b) (c .before .before .before .before .before .before .before .before .before .before .before .before .before .before .before .before .before .before .before .before .args .places .now) (c .before .before .before .before .before .before .before .before .before .before .before .before .before .before .before .before .before .before .before .before .args .bytes .now) (c .before .before .before .before .before .before .before .before .before .before .before .before .before .before .before .before .before .before .before .before .pre .0), f) at (c .before .before .before .before .before .put-run .ensures)
 
 pub put-job-spec : {M : Type 1} → statement M
 put-job-spec =
@@ -59,7 +58,7 @@ put-job-spec =
     slice-aggregate-put-text
     put-text-requires
     of-requires
-    fill-tables-requires
+    fill-racking-requires
     array-borrow-prefix-cards
     slice-aggregate-put-run
     put-run-requires
