@@ -13,10 +13,10 @@ use Rattle.counting.proofs.Checks.{first-here, first-later, first-off, first-no
 use Rattle.racks.specs.Racks.{ofCaps, slots}
 use Rattle.racks.specs.Numbers.{cardChecks, tooShort}
 use Rattle.answers.specs.Answers.{answer, noCounts}
-use Rattle.racks.proofs.LegalTable.{legal, spared-caps}
+use Rattle.racks.proofs.LegalTable.{spared-caps}
 use Rattle.moves.specs.Parts.{held}
 use Rattle.copies.proofs.Writing.{take-front}
-use Rattle.shuffle.proofs.Shuffles.{cards-good}
+use Rattle.tables.proofs.Tables.{cards-pass}
 use Rattle.jobfile.specs.File.{readM, readEntries, fileRacks, fileBytes, filePlaces, fileCards, fileChecks}
 use Rattle.jobfile.specs.Answers.{cardsOf, doneFile}
 use Rattle.jobfile.specs.Parts.{Parsed}
@@ -64,9 +64,9 @@ module _ (file : List ℕ) where
   unfolding fileHeld fileRacks fileCards
   run-small z =
       let w = within z in
-      let good = cards-good (fileRacks file) (fileBytes file) (filePlaces file) (fileCards file) (file-legal file (w .1)) in
-      run-enough (fileRacks file) (fileBytes file) (fileHeld file) (legal (fileRacks file) (filePlaces file) (good .table-good)) (spared-caps (readM file .values)) (file-small file (w .1) .1)
-      (good .cards-long) (omega (arith, good .cards-long, length-drop (readEntries file .place) file, w .0))
+      let good = cards-pass (fileRacks file) (fileBytes file) (filePlaces file) (fileCards file) (file-legal file (w .1)) in
+      run-enough (fileRacks file) (fileBytes file) (fileHeld file) (good .0) (spared-caps (readM file .values)) (file-small file (w .1) .1)
+      (good .1) (omega (arith, good .1, length-drop (readEntries file .place) file, w .0))
 
   -- **Always enough**: no text is longer than ENOUGH, that of a refusal neither
   pub listing-enough : length (listing file) ≤ ENOUGH

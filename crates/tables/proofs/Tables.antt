@@ -23,6 +23,7 @@ use Rattle.racks.specs.Job.{rackChecks, racksOf, jobOf, Sound, Fit}
 use Rattle.racks.specs.declared.Job.{Job}
 use Rattle.racks.proofs.Jobs.{sound-refused, sound-slots, of-refused, of-racks}
 use Rattle.racks.proofs.Legal.{racks-good, checks-racks, checks-places, checks-4, checks-entries}
+use Rattle.racks.specs.Legal.{Legal}
 use Rattle.racks.proofs.LegalTable.{places-legal}
 use Rattle.tables.specs.Check.{checked}
 use Rattle.tables.specs.Marks.{entriesNumber}
@@ -63,6 +64,21 @@ module _ (job : Job) (places : List ℕ) where
               let r = number-racks (sym is ∙ z) in
               record { sound = fit r; legal = places-legal (racksOf job) places (sym (past r) ∙ sym is ∙ z); filled = filled };
         }
+
+-- what is known where the table and its cards pass: a legal table, cards of S·B bytes, and B not too large
+module _ (racks : List Rack) (b : ℕ) (places cards : List ℕ) where
+  pub cards-good : first ((badPlaces racks places or badCards racks b cards, 4) ∷ entryChecks racks places) ≡ 0 → Legal racks places × (length cards ≡ slots racks * b)
+  unfolding badCards placesChecks
+  cards-good z =
+      let d = first-off (badPlaces racks places or badCards racks b cards) 4 _ (λ e. omega arith) z in
+      (places-legal racks places (first-later _ 4 _ (or-off-l _ (d .0)) ∙ d .1), eqb-true (length cards) (slots racks * b) (not-off-is (or-off-r (badPlaces racks places) (d .0))))
+
+  pub cards-pass : first (cardChecks racks b places cards) ≡ 0 → Legal racks places × (length cards ≡ slots racks * b)
+  unfolding cardChecks
+  cards-pass z =
+      let a = first-off (badCount (length racks)) 1 _ (λ e. omega arith) z in
+      let c = first-off (badBytes b) 2 _ (λ e. omega arith) (a .1) in
+      cards-good (first-off (badSize racks) 3 _ (λ e. omega arith) (c .1) .1)
 
 module _ (job : Job) (b : ℕ) (places cards : List ℕ) where
   pub cards-1 : job .refused ≡ 1 → 1 ≡ cardsNumber job b places cards
@@ -115,17 +131,16 @@ module _ (job : Job) (b : ℕ) (places cards : List ℕ) where
 
   -- and is accepted
   pub cards-open : Fit job → (racking : List ℕ) → Filled (racksOf job) racking → cardsNumber job b places cards ≡ 0 → OpenCards job b places cards racking
-  unfolding cardsNumber badBytes badCards placesChecks
+  unfolding cardsNumber badBytes
   cards-open fit racking filled z =
-      let k = racksOf job in
       let r = cards-racks z in
       let a = first-off (eqb (job .refused) 1) 1 _ (λ e. omega arith) z in
       let c = first-off (badBytes b) 2 _ (λ e. omega arith) (a .1) in
-      let d = first-off (badPlaces k places or badCards k b cards) 4 _ (λ e. omega arith) (sym (refusal-past (job .refused) _ r) ∙ c .1) in
+      let g = cards-good (racksOf job) b places cards (sym (refusal-past (job .refused) _ r) ∙ c .1) in
       record {
-        table = record { sound = fit r; legal = places-legal k places (first-later _ 4 _ (or-off-l _ (d .0)) ∙ d .1); filled = filled };
+        table = record { sound = fit r; legal = g .0; filled = filled };
         bytes = ltb-false 256 b (or-off-r (eqb b 0) (c .0));
-        long = eqb-true (length cards) (slots k * b) (not-off-is (or-off-r (badPlaces k places) (d .0)));
+        long = g .1;
       }
 
 -- B, by the code's tests
