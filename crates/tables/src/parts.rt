@@ -147,9 +147,9 @@ fn shut_spares(job: Job, marks: &mut [u8; Job::MARKS])
     let mut low: usize = 0;
     let mut p: usize = 0;
     while p < n {
-        let spare = job.spares[p] as usize;
+        let from = job.spares[p] as usize;
         low = job.ends[p] as usize;
-        fill(marks, spare, low, 0);
+        fill(marks, from, low, 0);
         p = p + 1;
     }
     marks[low] = 0;

@@ -28,12 +28,14 @@ element-copy-out-spare : tie.Need-element-copy-out-spare Inv-loop μ-loop
 element-copy-out-spare c = omega (arith, sound-count _ (c .before .before .pre .0))
 
 cast-spare : tie.Need-cast-spare Inv-loop μ-loop
-cast-spare c = omega (arith, spare-small _ (c .before .before .before .pre .0) (c .before .before .loop .p) (omega arith))
+cast-spare c =
+    let s = c .before .before .before in
+    omega (arith, spare-small _ (s .pre .0) (c .before .before .loop .p) (omega arith), end-small _ (s .pre .0) (c .before .before .loop .p) (omega arith))
 
 fill-requires : tie.Need-fill-requires Inv-loop μ-loop
 fill-requires c κs =
     let l = c .before .before .before in
-    omega (arith, spare-small _ (l .before .pre .0) (l .loop .p) (omega arith), l .loop .inv .1)
+    omega (arith, spare-small _ (l .before .pre .0) (l .loop .p) (omega arith), end-small _ (l .before .pre .0) (l .loop .p) (omega arith), l .loop .inv .1)
 
 mul-low : tie.Need-mul-low Inv-loop μ-loop
 mul-low c = omega (arith, sound-count _ (c .before .before .before .before .before .pre .0))

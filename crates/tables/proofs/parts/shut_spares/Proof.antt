@@ -21,14 +21,14 @@ abbrev μ-loop : tie.MeasureT-loop
 loop-holds : tie.Need-loop-holds Inv-loop μ-loop
 loop-holds c = (omega arith, c .pre .1, sym (base-zero _), λ v l. absurd (omega arith))
 
-mul-spare : tie.Need-mul-spare Inv-loop μ-loop
-mul-spare c = omega (arith, sound-count _ (c .before .before .pre .0))
+mul-from : tie.Need-mul-from Inv-loop μ-loop
+mul-from c = omega (arith, sound-count _ (c .before .before .pre .0))
 
-element-copy-out-spare : tie.Need-element-copy-out-spare Inv-loop μ-loop
-element-copy-out-spare c = omega (arith, sound-count _ (c .before .before .pre .0))
+element-copy-out-from : tie.Need-element-copy-out-from Inv-loop μ-loop
+element-copy-out-from c = omega (arith, sound-count _ (c .before .before .pre .0))
 
-cast-spare : tie.Need-cast-spare Inv-loop μ-loop
-cast-spare c = omega (arith, spare-small _ (c .before .before .before .pre .0) (c .before .before .loop .p) (omega arith))
+cast-from : tie.Need-cast-from Inv-loop μ-loop
+cast-from c = omega (arith, spare-small _ (c .before .before .before .pre .0) (c .before .before .loop .p) (omega arith))
 
 mul-low : tie.Need-mul-low Inv-loop μ-loop
 mul-low c = omega (arith, sound-count _ (c .before .before .before .pre .0))
@@ -84,9 +84,9 @@ shut-spares-spec =
     Inv-loop
     μ-loop
     loop-holds
-    mul-spare
-    element-copy-out-spare
-    cast-spare
+    mul-from
+    element-copy-out-from
+    cast-from
     mul-low
     element-copy-out-low
     cast-low
