@@ -2,7 +2,7 @@
 use mathlib.Core.Path.{_≡_, ap}
 use mathlib.Core.Bool.{true, false}
 use mathlib.Core.List.{List, [], _∷_, _++_}
-use Prim.Native.Nat.{ℕ, _≤_, _<_}
+use Prim.Native.Nat.{ℕ, _*_, _≤_, _<_}
 use native.Mathlib.Omega.{arith}
 use native.Mathlib.Decide.{decLt}
 use lib.ListN.{length, getD, length-append}
@@ -37,20 +37,20 @@ unfolding owing
 none-owing table k e = eqb-true _ _ (not-off-is e)
 
 -- a run so far: some phases are done, and nothing is awaited before the cursor
-pub record Sofar (racks : List Rack) (b : ℕ) (h₀ : Held) (t : Tally) (h : Held) (racking line bits log owes awaits : List ℕ) (at : ℕ) : Type 0 where
+pub record Sofar (racks : List Rack) (b : ℕ) (h₀ : Held) (t : Tally) (h : Held) (racking line bits log owes awaits : List ℕ) (cells at : ℕ) : Type 0 where
   pub done : List (List Pair)
   pub round : Round racks b h₀ done t h racking line bits log owes awaits
   pub below : (k : ℕ) → k < at → getD awaits k 0 ≡ 0
-  pub hit : at < 4096 → owing awaits at ≡ true
-  pub few : at ≤ 4096
+  pub hit : at < cells → owing awaits at ≡ true
+  pub few : at ≤ cells
 
 -- the same of whatever job was begun with
-pub record Gathering (b : ℕ) (h₀ : Held) (racking line₀ bits₀ log₀ owes₀ awaits₀ : List ℕ) (t : Tally) (h : Held) (line bits log owes awaits : List ℕ) (at : ℕ) : Type 0 where
-  pub sofar : (job : Job) → Set job b h₀ racking line₀ bits₀ log₀ owes₀ awaits₀ → Sofar (racksOf job) b h₀ t h racking line bits log owes awaits at
+pub record Gathering (b : ℕ) (h₀ : Held) (racking line₀ bits₀ log₀ owes₀ awaits₀ : List ℕ) (t : Tally) (h : Held) (line bits log owes awaits : List ℕ) (cells at : ℕ) : Type 0 where
+  pub sofar : (job : Job) → Set job b h₀ racking line₀ bits₀ log₀ owes₀ awaits₀ → Sofar (racksOf job) b h₀ t h racking line bits log owes awaits cells at
 
-module _ {b : ℕ} {h₀ : Held} {racking line₀ bits₀ log₀ owes₀ awaits₀ : List ℕ} where
+module _ {b : ℕ} {h₀ : Held} {racking line₀ bits₀ log₀ owes₀ awaits₀ : List ℕ} {cells : ℕ} where
   -- a run begins
-  pub gathering-first : {at : ℕ} → Next (owing awaits₀) 0 4096 at → Gathering b h₀ racking line₀ bits₀ log₀ owes₀ awaits₀ noCounts h₀ line₀ bits₀ log₀ owes₀ awaits₀ at
+  pub gathering-first : {at : ℕ} → Next (owing awaits₀) 0 cells at → Gathering b h₀ racking line₀ bits₀ log₀ owes₀ awaits₀ noCounts h₀ line₀ bits₀ log₀ owes₀ awaits₀ cells at
   gathering-first o = record {
     sofar = λ job s. record {
       done = [];
@@ -61,17 +61,17 @@ module _ {b : ℕ} {h₀ : Held} {racking line₀ bits₀ log₀ owes₀ awaits�
     };
   }
 
-  module _ {t : Tally} {h : Held} {line bits log owes awaits : List ℕ} {at : ℕ} (g : Gathering b h₀ racking line₀ bits₀ log₀ owes₀ awaits₀ t h line bits log owes awaits at) where
+  module _ {t : Tally} {h : Held} {line bits log owes awaits : List ℕ} {at : ℕ} (g : Gathering b h₀ racking line₀ bits₀ log₀ owes₀ awaits₀ t h line bits log owes awaits cells at) where
     -- nothing is awaited
-    pub gathering-done : {job : Job} → Set job b h₀ racking line₀ bits₀ log₀ owes₀ awaits₀ → 4096 ≤ at → PhasesMade (racksOf job) b h₀ h t log
-    gathering-done {job} s l = let y = g .sofar job s in round-done (y .round) (awaited-none (y .round) (λ k m. y .below k (omega arith)))
+    pub gathering-done : {job : Job} → Set job b h₀ racking line₀ bits₀ log₀ owes₀ awaits₀ → cells ≡ length (racksOf job) * 64 → cells ≤ at → PhasesMade (racksOf job) b h₀ h t log
+    gathering-done {job} s e l = let y = g .sofar job s in round-done (y .round) (awaited-none (y .round) (λ k m. y .below k (omega arith)))
 
-    pub gathering-few : {job : Job} → Set job b h₀ racking line₀ bits₀ log₀ owes₀ awaits₀ → at ≤ 4096
+    pub gathering-few : {job : Job} → Set job b h₀ racking line₀ bits₀ log₀ owes₀ awaits₀ → at ≤ cells
     gathering-few {job} s = g .sofar job s .few
 
-    module _ (l : at < 4096) where
+    module _ (l : at < cells) (few : cells ≤ 4096) where
       away : {job : Job} → Set job b h₀ racking line₀ bits₀ log₀ owes₀ awaits₀ → someAway (racksOf job) (h .places) ≡ true
-      away {job} s = let y = g .sofar job s in awaited-some (y .round) at l (y .hit l)
+      away {job} s = let y = g .sofar job s in awaited-some (y .round) at (omega arith) (y .hit l)
 
       -- a round can be made
       pub gathering-round : {job : Job} → Set job b h₀ racking line₀ bits₀ log₀ owes₀ awaits₀ → Rounding b t h racking line bits log owes awaits
@@ -100,7 +100,7 @@ module _ {b : ℕ} {h₀ : Held} {racking line₀ bits₀ log₀ owes₀ awaits�
             )
 
         -- and the cursor goes on
-        pub gathering-next : {at′ : ℕ} → Next (owing awaits′) at 4096 at′ → Gathering b h₀ racking line₀ bits₀ log₀ owes₀ awaits₀ t′ h′ line′ bits′ log′ owes′ awaits′ at′
+        pub gathering-next : {at′ : ℕ} → Next (owing awaits′) at cells at′ → Gathering b h₀ racking line₀ bits₀ log₀ owes₀ awaits₀ t′ h′ line′ bits′ log′ owes′ awaits′ cells at′
         gathering-next {at′} o = record {
           sofar = λ job s.
               let y = g .sofar job s in

@@ -130,7 +130,7 @@ module _ {racks : List Rack} {b : ℕ} {h₀ : Held} {done : List (List Pair)} {
       some-hit (slots racks) (away racks (h .places)) g m (to-away racks (h .places) (k % 64) g (and-l _ a))
 
   -- none is awaited: none is away
-  pub awaited-none : ((k : ℕ) → k < 4096 → getD wants k 0 ≡ 0) → someAway racks (h .places) ≡ false
+  pub awaited-none : ((k : ℕ) → k < length racks * 64 → getD wants k 0 ≡ 0) → someAway racks (h .places) ≡ false
   unfolding owes bound rackTo
   awaited-none z = by-test (someAway racks (h .places))
       (λ e.
@@ -140,7 +140,7 @@ module _ {racks : List Rack} {b : ℕ} {h₀ : Held} {done : List (List Pair)} {
       let li : i < 64 = omega (arith, rack-lt racks g l, r .fixed .few) in
       let lp : p < 64 = omega (arith, rack-lt racks (dest (h .places) g) (legal-dest racks (h .places) (r .turn .legal) g l (away-held racks (h .places) g a)), r .fixed .few) in
       let c : 0 < owes racks (h .places) i p = count-pos (slots racks) (bound racks (h .places) i p) g l (both (to-is racks (h .places) p g a refl) (eq-eqb i i refl)) in
-      absurd (omega (arith, now-awaited .counts i p li lp, z (cell i p) (omega arith))))
+      absurd (omega (arith, now-awaited .counts i p li lp, z (cell i p) (omega (arith, rack-lt racks g l)))))
       (λ e. e)
 
   -- what is not awaited is not awaited after further moves

@@ -22,20 +22,20 @@ pub fn log_agrees()
     ensures { λ _. do ⌜ LOG ≡ (← ⟦LOG⟧ .entry) ⌝ }
 {}
 
-// The first cell of the table from `cell` on in which something is awaited; 4,096 where there is none. The counts only fall, so a run looks
+// The first cell of the table from `cell` on in which something is awaited; `cells` where there is none. The counts only fall, so a run looks
 // at each cell once.
-fn next_awaited(awaits: &[u16; 4096], cell: usize) -> usize
-    requires { ⌜ cell ≤ 4096 ⌝ }
-    ensures { λ r. ⌜ Next (owing (now (awaits .entry))) cell 4096 r ⌝ }
+fn next_awaited(awaits: &[u16; 4096], cell: usize, cells: usize) -> usize
+    requires { ⌜ (cell ≤ cells) × (cells ≤ 4096) ⌝ }
+    ensures { λ r. ⌜ Next (owing (now (awaits .entry))) cell cells r ⌝ }
 {
     let mut k = cell;
-    while k < 4096 {
+    while k < cells {
         if awaits[k] != 0 {
             return k;
         }
         k = k + 1;
     }
-    4096
+    cells
 }
 
 // One phase of a run: carried whole, paid for in both tables, and its end noted in the log; gives the tally with it.
@@ -79,9 +79,10 @@ pub fn run_phases(
     requires { ⌜ Set job b (held (now places) (now cards)) (now racking) (now line) (now bits) (now log) (now owes) (now awaits) ⌝ }
     ensures { λ r. ⌜ PhasesMade (racksOf job) b (held (now (places .entry)) (now (cards .entry))) (held (now (places .exit)) (now (cards .exit))) r (now (log .exit)) ⌝ }
 {
+    let cells = job.racks * 64;
     let mut tally = Tally::none();
-    let mut cell = next_awaited(awaits, 0);
-    while cell < 4096 {
+    let mut cell = next_awaited(awaits, 0, cells);
+    while cell < cells {
         tally = run_round(
             b,
             tally,
@@ -94,7 +95,7 @@ pub fn run_phases(
             owes,
             awaits,
         );
-        cell = next_awaited(awaits, cell);
+        cell = next_awaited(awaits, cell, cells);
     }
     tally
 }

@@ -9,13 +9,13 @@ use Rattle.runs.proofs.parts.rounds.next_awaited.Statement.{statement}
 use Rattle.runs.proofs.parts.rounds.next_awaited.Tie as tie
 
 abbrev Inv-loop : tie.InvT-loop
-Inv-loop awaits cell k₀ k = (cell ≤ k) × (k ≤ 4096) × ((j : ℕ) → j < k → cell ≤ j → owing awaits j ≡ false)
+Inv-loop awaits cell cells k₀ k = (cell ≤ k) × (k ≤ cells) × ((j : ℕ) → j < k → cell ≤ j → owing awaits j ≡ false)
 
 abbrev μ-loop : tie.MeasureT-loop
-μ-loop awaits cell k₀ k = 4096 - k
+μ-loop awaits cell cells k₀ k = cells - k
 
 loop-holds : tie.Need-loop-holds Inv-loop μ-loop
-loop-holds c = (omega arith, c .pre, λ j l m. absurd (omega arith))
+loop-holds c = (omega arith, c .pre .0, λ j l m. absurd (omega arith))
 
 mul-if1 : tie.Need-mul-if1 Inv-loop μ-loop
 mul-if1 c = omega arith

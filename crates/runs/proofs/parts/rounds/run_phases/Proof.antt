@@ -1,7 +1,8 @@
+use Rattle.racks.proofs.Jobs.{sound-racks, sound-count}
 use native.Mathlib.Omega.{arith}
 use borrow.Author.Needs.{needs}
-use mathlib.Core.Path.{_≡_, refl}
-use Prim.Native.Nat.{_-_}
+use mathlib.Core.Path.{_≡_, refl, ap}
+use Prim.Native.Nat.{_*_, _-_, _≤_}
 use lib.ListN.{length}
 use Rattle.moves.specs.Parts.{held}
 use Rattle.runs.proofs.Gathers.{Gathering, gathering-first, gathering-few, gathering-round, gathering-more, gathering-next, gathering-done}
@@ -9,37 +10,50 @@ use Rattle.runs.proofs.parts.rounds.run_phases.Statement.{statement}
 use Rattle.runs.proofs.parts.rounds.run_phases.Tie as tie
 
 abbrev Inv-loop : tie.InvT-loop
-Inv-loop b places₀ cards₀ racking line₀ bits₀ log₀ owes₀ awaits₀ tally₀ cell₀ places cards line bits log owes awaits tally cell = (length places ≡ length places₀) × (length cards ≡ length cards₀) × (length log ≡ length log₀)
-    × Gathering b (held places₀ cards₀) racking line₀ bits₀ log₀ owes₀ awaits₀ tally (held places cards) line bits log owes awaits cell
+Inv-loop b places₀ cards₀ racking line₀ bits₀ log₀ owes₀ awaits₀ cells tally₀ cell₀ places cards line bits log owes awaits tally cell =
+    (length places ≡ length places₀) × (length cards ≡ length cards₀) × (length log ≡ length log₀)
+    × Gathering b (held places₀ cards₀) racking line₀ bits₀ log₀ owes₀ awaits₀ tally (held places cards) line bits log owes awaits cells cell
 
 abbrev μ-loop : tie.MeasureT-loop
-μ-loop b places₀ cards₀ racking line₀ bits₀ log₀ owes₀ awaits₀ tally₀ cell₀ places cards line bits log owes awaits tally cell = 4096 - tally .moves
+μ-loop b places₀ cards₀ racking line₀ bits₀ log₀ owes₀ awaits₀ cells tally₀ cell₀ places cards line bits log owes awaits tally cell =
+    4096 - tally .moves
+
+-- the racks' cells are cells of the table
+few : (s : tie.Start Inv-loop μ-loop) → s .args .job .racks * 64 ≤ 4096
+few s = omega (arith, sound-count _ (s .pre .going .opened .sound))
+
+mul-cells : tie.Need-mul-cells Inv-loop μ-loop
+mul-cells c = omega (arith, few (c .before .before .before .before))
 
 none-requires : tie.Need-none-requires Inv-loop μ-loop
 none-requires c κs = search needs
 
 next-awaited-requires : tie.Need-next-awaited-requires Inv-loop μ-loop
-next-awaited-requires c κs = omega arith
+next-awaited-requires c κs = (omega arith, few (c .before .before .before .before .before .before))
 
 loop-holds : tie.Need-loop-holds Inv-loop μ-loop
 loop-holds c = (refl, refl, refl, rw (c .before .before .none .ensures) (gathering-first (c .next-awaited .ensures)))
 
 run-round-requires : tie.Need-run-round-requires Inv-loop μ-loop
-run-round-requires c κs = let s = c .before .before .before .before .before .before .before .before .before .before .before .before .before .before .before in gathering-round (c .before .before .before .before .before .before .before .before .loop .inv .3) (omega arith) (s .pre)
+run-round-requires c κs = gathering-round (c .before .before .before .before .before .before .before .before .loop .inv .3) (omega arith) (few (c .before .before .before .before .before .before .before .before .before .before .before .before .before .before .before .before)) (c .before .before .before .before .before .before .before .before .before .before .before .before .before .before .before .before .pre)
 
 next-awaited-requires-2 : tie.Need-next-awaited-requires-2 Inv-loop μ-loop
-next-awaited-requires-2 c κs = let s = c .before .before .before .before .before .before .before .before .before .before .before .before .before .before .before .before .before .before .before .before .before .before .before in gathering-few (c .before .before .before .before .before .before .before .before .before .before .before .before .before .before .before .before .loop .inv .3) (s .pre)
+next-awaited-requires-2 c κs = (gathering-few (c .before .before .before .before .before .before .before .before .before .before .before .before .before .before .before .before .loop .inv .3) (c .before .before .before .before .before .before .before .before .before .before .before .before .before .before .before .before .before .before .before .before .before .before .before .before .pre), few (c .before .before .before .before .before .before .before .before .before .before .before .before .before .before .before .before .before .before .before .before .before .before .before .before))
 
 loop-less : tie.Need-loop-less Inv-loop μ-loop
-loop-less c = let s = c .before .before .before .before .before .before .before .before .before .before .before .before .before .before .before .before .before .before .before .before .before .before .before .before in let m = gathering-more (c .before .before .before .before .before .before .before .before .before .before .before .before .before .before .before .before .before .loop .inv .3) (c .before .before .before .before .before .before .before .before .before .before .before .before .before .before .before .before .loop-test .taken) (c .before .before .before .before .before .before .before .before .run-round .ensures) (s .pre) in omega (arith, m .0, m .1)
+loop-less c =
+    let s = c .before .before .before .before .before .before .before .before .before .before .before .before .before .before .before .before .before .before .before .before .before .before .before .before .before in
+    let m = gathering-more (c .before .before .before .before .before .before .before .before .before .before .before .before .before .before .before .before .before .loop .inv .3) (c .before .before .before .before .before .before .before .before .before .before .before .before .before .before .before .before .loop-test .taken) (few s) (c .before .before .before .before .before .before .before .before .run-round .ensures) (s .pre) in
+    omega (arith, m .0, m .1)
 
 loop-again : tie.Need-loop-again Inv-loop μ-loop
-loop-again c = let l = c .before .before .before .before .before .before .before .before .before .before .before .before .before .before .before .before .before .loop in
+loop-again c =
+    let l = c .before .before .before .before .before .before .before .before .before .before .before .before .before .before .before .before .before .loop in
     let k = c .before .before .before .before .before .before .before .before .run-round .kept in (
       omega (arith, k .1 .1 .0, l .inv .0),
       omega (arith, k .1 .1 .1 .0, l .inv .1),
       omega (arith, k .1 .1 .1 .1 .1 .1 .1 .0, l .inv .2),
-      gathering-next (l .inv .3) (c .before .before .before .before .before .before .before .before .before .before .before .before .before .before .before .before .loop-test .taken) (c .before .before .before .before .before .before .before .before .run-round .ensures) (c .next-awaited2 .ensures),
+      gathering-next (l .inv .3) (c .before .before .before .before .before .before .before .before .before .before .before .before .before .before .before .before .loop-test .taken) (few (c .before .before .before .before .before .before .before .before .before .before .before .before .before .before .before .before .before .before .before .before .before .before .before .before .before)) (c .before .before .before .before .before .before .before .before .run-round .ensures) (c .next-awaited2 .ensures),
     )
 
 same-length : tie.Need-same-length Inv-loop μ-loop
@@ -52,7 +66,7 @@ same-length-3 : tie.Need-same-length-3 Inv-loop μ-loop
 same-length-3 c = c .before .loop .inv .2
 
 returns : tie.Need-returns Inv-loop μ-loop
-returns c = let s = c .before .before .before .before .before .before .before .before in gathering-done (c .before .loop .inv .3) (s .pre) (omega arith)
+returns c = let s = c .before .before .before .before .before .before .before .before .before in gathering-done (c .before .loop .inv .3) (s .pre) (ap (λ n. n * 64) (sound-racks _ (s .pre .going .opened .sound))) (omega arith)
 
 pub run-phases-spec : {M : Type 1} → statement M
 run-phases-spec =
@@ -60,6 +74,7 @@ run-phases-spec =
     (tie.spec
     Inv-loop
     μ-loop
+    mul-cells
     none-requires
     next-awaited-requires
     loop-holds
