@@ -30,8 +30,8 @@
  * What is asked of the stack
  *
  * There is no heap, so a call's tables lie on the caller's stack. Measured at the largest jobs, in KB of
- * 1,024 bytes: file reader 14; table check, slot question and one move 18; phase plan 26; budgeted moves
- * 42; copy list 97; shuffle 98; whole run 138; listing 410. Large frames are touched page by page, so a
+ * 1,024 bytes: file reader, table check, slot question and one move 14; phase plan 23; budgeted moves
+ * 39; copy list 65; shuffle 90; whole run 114; listing 406. Large frames are touched page by page, so a
  * stack that is too small ends in its guard page. bindings/rust/examples/stack.rs measures anew.
  *
  * Numbers given back

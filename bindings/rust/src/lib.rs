@@ -26,7 +26,7 @@
 //! A refusal changes nothing that is lent.
 //!
 //! There is no heap: a call's tables lie on the caller's stack. The whole run takes
-//! up to 138 KB of it, the listing 410 KB, every other call less than 100 KB
+//! up to 114 KB of it, the listing 406 KB, every other call at most 90 KB
 //! (`examples/stack.rs` measures it).
 //!
 //! ```
