@@ -185,4 +185,5 @@ one-outcome =
       c-whole-run = λ caps b places cards. c-carded _;
       c-read-file = λ file caps places. c-filed file _;
       c-list-job = λ file lent. c-texted _;
+      c-limits = same _;
     }

@@ -36,6 +36,8 @@ use Rattle.flat.specs.declared.Answer as c
 use Rattle.flat.specs.declared.SlotAnswer as c-slot
 use Rattle.flat.specs.declared.FileAnswer as c-file
 use Rattle.flat.specs.declared.ListingAnswer as c-text
+use Rattle.seineflute.specs.Limits.{limits}
+use Rattle.seineflute.specs.declared.Limits.{Limits}
 
 -- any two that are allowed are equal
 abbrev pub One : {A : Type 0} → (A → Type 0) → Type 0
@@ -98,3 +100,4 @@ pub record OneOutcome : Type 0 where
   pub c-read-file : (file caps places : List ℕ)
       → One (λ ((r, caps′, places′) : c-file.FileAnswer × List ℕ × List ℕ). readOf (fileOf r) caps′ places′ file ≡ read file caps places)
   pub c-list-job : (file lent : List ℕ) → One (λ ((r, lent′) : c-text.ListingAnswer × List ℕ). printedOf (textOf r) lent′ ≡ printed file lent)
+  pub c-limits : One (λ (r : Limits). r ≡ limits)
