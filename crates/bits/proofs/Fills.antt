@@ -10,7 +10,7 @@ use lib.ListN.{length, getD, set, length-set}
 use lib.Seq.{getD-set-same, getD-set-other}
 use borrow.Author.Tests.{eq-eqb, ne-eqb}
 use Rattle.counting.proofs.Tests.{by-test}
-use Rattle.bits.specs.Bits.{bitOn, turnedOn, isOn, filled, Topped}
+use Rattle.bits.specs.parts.Bits.{bitOn, turnedOn, isOn, filled, Topped}
 use Rattle.bits.proofs.Words.{turned-on-here, turned-on-other, turned-on-lt}
 
 -- as code fills a word: with no bit on, and with some

@@ -11,7 +11,7 @@ use lib.Pow.{shr-le}
 use lib.Count.{trailingZeros, trailing-le}
 use borrow.Author.Tests.{eqb-true}
 use Rattle.counting.proofs.Tests.{no-way, not-off-is}
-use Rattle.bits.specs.Bits.{bitOn, isOn, Topped, Next}
+use Rattle.bits.specs.parts.Bits.{bitOn, isOn, Topped, Next}
 use Rattle.bits.proofs.Words.{bit-none, bit-shift}
 use Rattle.bits.proofs.Trailing.{trailing-below, trailing-hit, trailing-lt, bit-over}
 

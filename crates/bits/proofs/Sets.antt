@@ -13,7 +13,7 @@ use lib.Seq.{getD-set-same, getD-set-other}
 use borrow.Author.Tests.{eq-eqb, ne-eqb, eqb-false}
 use Rattle.counting.proofs.Tests.{by-test}
 use Rattle.counting.proofs.Lists.{zeros}
-use Rattle.bits.specs.Bits.{bitOn, turnedOn, turnedOff, isOn, marked, cleared, Topped}
+use Rattle.bits.specs.parts.Bits.{bitOn, turnedOn, turnedOff, isOn, marked, cleared, Topped}
 use Rattle.bits.proofs.Words.{bit-none, turned-on-here, turned-on-other, turned-off-here, turned-off-none, turned-off-other, turned-on-lt, turned-off-lt, not-none}
 
 -- a number's word and bit: below 64 both, and no other number has the same two

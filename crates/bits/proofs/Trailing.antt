@@ -9,7 +9,7 @@ use native.Mathlib.Numerals.{one-add}
 use lib.Dec.{eqb}
 use lib.Pow.{pow-mono}
 use lib.Count.{trailingZeros, under}
-use Rattle.bits.specs.Bits.{bitOn}
+use Rattle.bits.specs.parts.Bits.{bitOn}
 use Rattle.bits.proofs.Words.{bit-shift}
 
 -- bit 0 is the lowest digit

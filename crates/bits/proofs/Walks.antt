@@ -8,7 +8,7 @@ use native.Mathlib.Decide.{ℕ-discrete, decLt, decLe}
 use lib.Dec.{eqb}
 use lib.ListN.{getD}
 use Rattle.counting.proofs.Tests.{no-way}
-use Rattle.bits.specs.Bits.{bitOn, turnedOff, isOn, Topped, Next, Walking, Onward, Walked}
+use Rattle.bits.specs.parts.Bits.{bitOn, turnedOff, isOn, Topped, Next, Walking, Onward, Walked}
 use Rattle.bits.proofs.Words.{bit-none, bit-shift, turned-off-here, turned-off-other}
 use Rattle.bits.proofs.Trailing.{all-off, bit-over}
 use Rattle.bits.proofs.Nexts.{is-on-at, top-off}

@@ -10,7 +10,7 @@ use lib.Arith.{digits-div, digits-mod}
 use lib.Bits.{bitAnd, bitOr, bitXor, differ, or-step, and-step, xor-step, or-shr, and-shr, xor-shr, shifted-even, or-lt, xor-lt, and-le-l}
 use lib.Pow.{pow-pos, pow-lt, pow-add, shl-shr, shr-shr, ones-split, ones-lt, high}
 use Rattle.counting.specs.Tests.{bit}
-use Rattle.bits.specs.Bits.{bitOn, ALL, turnedOn, turnedOff}
+use Rattle.bits.specs.parts.Bits.{bitOn, ALL, turnedOn, turnedOff}
 
 -- the lowest digit of `or` is the greater of the two lowest digits
 or-low : (a c : ℕ) → bitOr a c % 2 ≡ max (a % 2) (c % 2)

@@ -2,7 +2,7 @@
 ghost use mathlib.Core.Path.{_≡_};
 ghost use Prim.Native.Nat.{_≤_, _<_};
 ghost use lib.ListN.{length};
-ghost use Rattle.bits.specs.Bits.{bitOn, turnedOn, turnedOff, marked, filled, cleared, Topped, Next, Walking, Onward, Walked};
+ghost use Rattle.bits.specs.parts.Bits.{bitOn, turnedOn, turnedOff, marked, filled, cleared, Topped, Next, Walking, Onward, Walked};
 
 // The first bit of a word from bit s up that is on; 64 where none is.
 pub fn next_on(word: u64, s: usize) -> usize

@@ -7,30 +7,31 @@ use native.Mathlib.Omega.{arith}
 use native.Mathlib.Decide.{ℕ-discrete, decLt}
 use lib.ListN.{length}
 use borrow.Author.Tests.{eq-eqb, ne-eqb}
-use Rattle.counting.specs.Lists.{Pair, table, join, matching}
+use Rattle.counting.specs.Lists.{Pair, tabulate, join, matching}
 use Rattle.counting.specs.Every.{All}
 use Rattle.counting.specs.Every.All.{more, none}
 use Rattle.counting.proofs.Every.{all-map}
 use Rattle.counting.proofs.Lists.{matching-append, join-more}
 use Rattle.racks.specs.Racks.{Rack, rackOf}
-use Rattle.racks.specs.Legal.{Legal}
+use Rattle.racks.specs.parts.Legal.{Legal}
 use Rattle.racks.proofs.Away.{on-rack}
-use Rattle.tables.specs.Tables.{Filled}
-use Rattle.phases.specs.Plan.{planFor, plan, room}
-use Rattle.phases.proofs.Plans.{plan-for-serves, plan-allowed, plan-apart}
-use Rattle.bits.specs.Bits.{bitOn}
-use Rattle.queues.specs.Line.{headOf, tailOf, roomOf}
-use Rattle.queues.specs.Queues.{Rows, rowsOf, sent, Visitable, PhasePlanned}
-use Rattle.queues.specs.Ready.{Ready}
+use Rattle.tables.specs.parts.Tables.{Filled}
+use Rattle.plans.specs.Plan.{planFor, plan, room}
+use Rattle.plans.proofs.Plans.{plan-for-serves, plan-allowed, plan-apart}
+use Rattle.bits.specs.parts.Bits.{bitOn}
+use Rattle.queues.specs.parts.Line.{headOf, tailOf, roomOf}
+use Rattle.queues.specs.parts.Queues.{Rows, rowsOf, sent, Visitable, PhasePlanned}
+use Rattle.queues.specs.parts.Ready.{Ready}
 use Rattle.queues.proofs.Stretch.{part-drop}
 use Rattle.queues.proofs.Pairing.{sent-le, pairs-long}
 use Rattle.queues.proofs.OpenSlots.{opens-roomy}
 use Rattle.queues.proofs.Ready.{ready-for}
 use Rattle.queues.proofs.Line.{queue-long}
 use Rattle.moves.specs.Moves.{carriedPlaces}
-use Rattle.moves.proofs.Carry.{InTurn, pairs-in-turn}
+use Rattle.moves.specs.Turns.{InTurn}
+use Rattle.moves.proofs.Carry.{pairs-in-turn}
 use Rattle.moves.proofs.Waits.{waits-carried}
-use Rattle.budgets.specs.Engine.{noted, notedLine}
+use Rattle.budgets.specs.parts.Engine.{noted, notedLine}
 use Rattle.budgets.proofs.Shows.{lands, Midway, midway-carried}
 
 -- moves that all land on rack q
@@ -51,12 +52,12 @@ module _ (racks : List Rack) (places : List ℕ) where
   lands-on q = all-map (λ m s. on-rack racks places q (m .1) (s .1 .1)) (plan-for-serves racks places q)
 
   -- of the first n targets' pairs, those of p land on p
-  lands-less : (p n : ℕ) → n ≤ p → matching (lands racks p) (join (table n (planFor racks places))) ≡ 0
-  unfolding table join matching
+  lands-less : (p n : ℕ) → n ≤ p → matching (lands racks p) (join (tabulate n (planFor racks places))) ≡ 0
+  unfolding tabulate join matching
   lands-less p zero l = refl
   lands-less p (suc n) l = rw (join-more n (planFor racks places), matching-append) (omega (arith, lands-less p n (omega arith), land-none racks p n (lands-on n) (λ e. omega arith)))
 
-  lands-in : (p n : ℕ) → p < n → matching (lands racks p) (join (table n (planFor racks places))) ≡ length (planFor racks places p)
+  lands-in : (p n : ℕ) → p < n → matching (lands racks p) (join (tabulate n (planFor racks places))) ≡ length (planFor racks places p)
   lands-in p zero l = absurd (omega arith)
   lands-in p (suc n) l = rw (join-more n (planFor racks places), matching-append) (elim (ℕ-discrete n p) [
     | yes e ↦ rw e (omega (arith, lands-less p p (omega arith), land-all racks p p (lands-on p) refl))

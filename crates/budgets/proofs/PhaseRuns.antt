@@ -13,16 +13,16 @@ use Rattle.counting.proofs.Every.{all-map, all-take}
 use Rattle.counting.proofs.Lists.{take-min}
 use Rattle.counting.proofs.Stores.{length-flat}
 use Rattle.answers.specs.declared.Tally.{Tally}
-use Rattle.bits.specs.Bits.{marked, cleared}
+use Rattle.bits.specs.parts.Bits.{marked, cleared}
 use Rattle.bits.proofs.Sets.{length-marked, length-cleared}
-use Rattle.queues.specs.Line.{roomOf, lowOf}
-use Rattle.queues.specs.Queues.{rowsOf, queuedPlan, PhasePlanned}
-use Rattle.queues.specs.Queued.{oneMore}
+use Rattle.queues.specs.parts.Line.{roomOf, lowOf}
+use Rattle.queues.specs.parts.Queues.{rowsOf, queuedPlan, PhasePlanned}
+use Rattle.queues.specs.parts.Queued.{oneMore}
 use Rattle.queues.proofs.Opens.{open-few}
 use Rattle.moves.specs.Moves.{Held}
-use Rattle.moves.specs.Parts.{pairsIn, AllSlots, Carried}
+use Rattle.moves.specs.parts.Carrying.{pairsIn, AllSlots, Carried}
 use Rattle.moves.proofs.Flat.{pairs-of, pairs-more, pairs-none}
-use Rattle.budgets.specs.Engine.{note, noted, noteLine, notedLine, Notable, AllNotable, MoveNoted, Noted, Runnable, PhaseRun}
+use Rattle.budgets.specs.parts.Engine.{note, noted, noteLine, notedLine, Notable, AllNotable, MoveNoted, Noted, Runnable, PhaseRun}
 use Rattle.budgets.proofs.Shows.{note-long, note-else, note-here}
 
 -- a move keeps the length of the set's list

@@ -16,22 +16,22 @@ use Rattle.counting.proofs.Tests.{and-off-l, and-off-r, both, not-on, and-r}
 use Rattle.counting.proofs.Count.{count-cong, count-change}
 use Rattle.racks.specs.Racks.{Rack, slots, rackOf}
 use Rattle.racks.specs.Table.{free, onRack, away, freeOn}
-use Rattle.racks.specs.Legal.{Legal}
+use Rattle.racks.specs.parts.Legal.{Legal}
 use Rattle.racks.proofs.Geometry.{rack-lt}
-use Rattle.tables.specs.Tables.{Filled}
-use Rattle.phases.specs.Plan.{room}
-use Rattle.phases.proofs.Allowed.{Allowed}
-use Rattle.bits.specs.Bits.{isOn, marked, Topped}
+use Rattle.tables.specs.parts.Tables.{Filled}
+use Rattle.plans.specs.Plan.{room}
+use Rattle.plans.specs.Allowed.{Allowed}
+use Rattle.bits.specs.parts.Bits.{isOn, marked, Topped}
 use Rattle.bits.proofs.Sets.{length-marked, topped-marked, topped-cleared, marked-here, marked-other, cleared-here, cleared-other, marked-beside, cleared-beside}
-use Rattle.queues.specs.Line.{queueOf, headOf, tailOf, roomOf, lowOf}
-use Rattle.queues.specs.Queued.{oneMore}
-use Rattle.queues.specs.Openings.{Shown}
+use Rattle.queues.specs.parts.Line.{queueOf, headOf, tailOf, roomOf, lowOf}
+use Rattle.queues.specs.parts.Queued.{oneMore}
+use Rattle.queues.specs.parts.Openings.{Shown}
 use Rattle.queues.proofs.Line.{queue-kept}
 use Rattle.moves.specs.Moves.{movedPlaces, carriedPlaces}
 use Rattle.moves.proofs.Moved.{legal-moved, allowed-free, free-from, same-free, taken-to}
-use Rattle.moves.proofs.Carry.{InTurn}
-use Rattle.moves.proofs.Carry.InTurn.{stop, next}
-use Rattle.budgets.specs.Engine.{note, noted, noteLine, notedLine}
+use Rattle.moves.specs.Turns.{InTurn}
+use Rattle.moves.specs.Turns.InTurn.{stop, next}
+use Rattle.budgets.specs.parts.Engine.{note, noted, noteLine, notedLine}
 
 -- a move lands on rack p
 unfoldable pub lands : List Rack → ℕ → Pair → Bool

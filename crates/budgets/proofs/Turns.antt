@@ -12,7 +12,7 @@ use Rattle.counting.proofs.Every.{all-map}
 use Rattle.racks.specs.Racks.{Rack, slots}
 use Rattle.racks.specs.Table.{aways}
 use Rattle.racks.specs.Numbers.{someAway}
-use Rattle.racks.specs.Legal.{Legal, Spared}
+use Rattle.racks.specs.parts.Legal.{Legal, Spared}
 use Rattle.racks.proofs.Geometry.{rack-lt}
 use Rattle.racks.proofs.Away.{aways-few}
 use Rattle.racks.proofs.Jobs.{sound-few}
@@ -20,18 +20,20 @@ use Rattle.racks.specs.Job.{racksOf}
 use Rattle.racks.specs.declared.Job.{Job}
 use Rattle.answers.specs.declared.Tally.{Tally}
 use Rattle.answers.specs.Answers.{noCounts}
-use Rattle.tables.specs.Tables.{Filled}
-use Rattle.phases.specs.Plan.{plan}
-use Rattle.phases.proofs.Plans.{plan-allowed, plan-aways, plan-few}
-use Rattle.queues.specs.Queues.{rowsOf, queuedPlan}
-use Rattle.queues.specs.Ready.{Ready}
+use Rattle.tables.specs.parts.Tables.{Filled}
+use Rattle.plans.specs.Plan.{plan}
+use Rattle.plans.proofs.Plans.{plan-allowed, plan-aways, plan-few}
+use Rattle.queues.specs.parts.Queues.{rowsOf, queuedPlan}
+use Rattle.queues.specs.parts.Ready.{Ready}
 use Rattle.queues.proofs.Ready.{ready-plan}
 use Rattle.moves.specs.Moves.{carriedPlaces, carriedCards, Held, carried}
 use Rattle.moves.specs.Phases.{budget}
-use Rattle.moves.proofs.Carry.{InTurn, in-turn-take, legal-carried, aways-carried, length-carried-cards, carried-append}
+use Rattle.moves.specs.Turns.{InTurn}
+use Rattle.moves.proofs.Carry.{in-turn-take, legal-carried, aways-carried, length-carried-cards, carried-append}
 use Rattle.moves.proofs.Phases.{aways-none, budget-none, budget-step}
 use Rattle.moves.proofs.FirstFit.{first-fit}
-use Rattle.budgets.specs.Engine.{Runnable, PhaseRun, Going, Made}
+use Rattle.budgets.specs.parts.Engine.{Runnable, PhaseRun, Going, Made}
+use Rattle.budgets.specs.parts.Turns.{Fixed, Turn}
 use Rattle.budgets.proofs.NextPhase.{plan-in-turn, ready-next}
 use Rattle.budgets.proofs.Shows.{noted-long}
 use Rattle.budgets.proofs.Waiting.{none-waits, some-waits}
@@ -44,24 +46,6 @@ budget-zero racks places = refl
 -- counts, by their three numbers
 pub tally-is : (t : Tally) (x y z : ℕ) → t .phases ≡ x → t .moves ≡ y → t .copies ≡ z → t ≡ record { phases = x; moves = y; copies = z }
 tally-is t x y z p q r = rw (← p, ← q, ← r)
-
--- what does not change from turn to turn
-pub record Fixed (racks : List Rack) (racking : List ℕ) : Type 0 where
-  pub spared : Spared racks
-  pub small : slots racks ≤ 4096
-  pub few : length racks ≤ 64
-  pub filled : Filled racks racking
-
--- some of an allowance of k moves are made since the table and the cards were h₀
-pub record Turn (racks : List Rack) (b k : ℕ) (h₀ : Held) (t : Tally) (h : Held) (line bits log : List ℕ) : Type 0 where
-  pub within : t .moves ≤ k
-  pub legal : Legal racks (h .places)
-  pub cards-long : length (h .cards) ≡ slots racks * b
-  pub line-long : length line ≡ 4416
-  pub room : 8192 ≤ length log
-  pub ready : t .moves < k → Ready racks (h .places) (rowsOf line bits)
-  pub rest : carried b (budget racks (k - t .moves) (h .places)) h ≡ carried b (budget racks k (h₀ .places)) h₀
-  pub count : t .moves + aways racks (h .places) ≡ aways racks (h₀ .places)
 
 -- counts of moves alone
 pub record MovesOnly (t : Tally) : Type 0 where

@@ -16,15 +16,15 @@ use Rattle.counting.proofs.Some.{some-off}
 use Rattle.racks.specs.Racks.{Rack, slots}
 use Rattle.racks.specs.Table.{dest, rackTo, away, awayTo}
 use Rattle.racks.specs.Numbers.{someAway}
-use Rattle.racks.specs.Legal.{Legal}
+use Rattle.racks.specs.parts.Legal.{Legal}
 use Rattle.racks.proofs.Geometry.{rack-lt}
 use Rattle.racks.proofs.LegalTable.{legal-dest}
 use Rattle.racks.proofs.Away.{away-held, to-is, to-away}
-use Rattle.bits.specs.Bits.{bitOn}
+use Rattle.bits.specs.parts.Bits.{bitOn}
 use Rattle.bits.proofs.Words.{bit-none}
 use Rattle.bits.proofs.Trailing.{all-off}
-use Rattle.queues.specs.Queues.{Rows, part}
-use Rattle.queues.specs.Ready.{Ready}
+use Rattle.queues.specs.parts.Queues.{Rows, part}
+use Rattle.queues.specs.parts.Ready.{Ready}
 use Rattle.moves.proofs.Phases.{some-away}
 
 module _ {racks : List Rack} {places : List ℕ} {rows : Rows} (r : Ready racks places rows) where

@@ -1,2 +1,1 @@
-pub mod Engine
-pub mod Budgeted
+pub mod parts

@@ -2,7 +2,7 @@
 ghost use mathlib.Core.Path.{_≡_};
 ghost use Rattle.racks.specs.Racks.{ofCaps};
 ghost use Rattle.moves.specs.Phases.{budgeted};
-ghost use Rattle.moves.specs.Parts.{held, outcomeOf};
+ghost use Rattle.moves.specs.Moves.{held, outcomeOf};
 use answers::Answer;
 use racks::Job;
 

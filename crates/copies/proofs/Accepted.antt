@@ -5,9 +5,9 @@ use Prim.Native.Nat.{ℕ}
 use Rattle.racks.specs.Numbers.{someAway}
 use Rattle.racks.specs.Job.{racksOf}
 use Rattle.racks.specs.declared.Job.{Job}
-use Rattle.tables.specs.Tables.{Open}
-use Rattle.copies.specs.Chains.{Chained}
-use Rattle.copies.specs.Writes.{someAwayBy}
+use Rattle.tables.specs.parts.Tables.{Open}
+use Rattle.copies.specs.parts.Chains.{Chained}
+use Rattle.copies.specs.parts.Writes.{someAwayBy}
 use Rattle.copies.proofs.Chains.{chained}
 use Rattle.copies.proofs.AwayBy.{some-away-by}
 

@@ -11,7 +11,7 @@ use Rattle.counting.specs.Tests.{_or_}
 use Rattle.counting.specs.Lists.{among, last}
 use Rattle.racks.specs.Limits.{FREE}
 use Rattle.copies.specs.Copies.{next, source, onward, back}
-use Rattle.copies.specs.Chains.{Chained}
+use Rattle.copies.specs.parts.Chains.{Chained}
 use Rattle.copies.proofs.Walks.{Path}
 use Rattle.copies.proofs.Chains.{next-source, onward-path, back-path, shift-ends}
 

@@ -14,10 +14,10 @@ use Rattle.counting.proofs.Tests.{by-test, no-way}
 use Rattle.racks.specs.Limits.{FREE}
 use Rattle.racks.specs.Racks.{Rack, slots}
 use Rattle.racks.specs.Table.{dest, free, names}
-use Rattle.racks.specs.Legal.{Legal}
+use Rattle.racks.specs.parts.Legal.{Legal}
 use Rattle.racks.proofs.LegalTable.{legal-dest}
 use Rattle.copies.specs.Copies.{next, source, onward, back, onCycle, head}
-use Rattle.copies.specs.Chains.{Chained}
+use Rattle.copies.specs.parts.Chains.{Chained}
 use Rattle.counting.specs.Every.{In, Distinct}
 use Rattle.copies.proofs.Members.{last-in, pigeon}
 use Rattle.copies.proofs.Walks.{Ends, Path, Undoes, after-path, walk-distinct, walk-low, walk-ends, turns-back}

@@ -20,11 +20,11 @@ use Rattle.racks.specs.Racks.{Rack, ofCaps}
 use Rattle.racks.specs.Numbers.{someAway, tooShort}
 use Rattle.racks.specs.Job.{racksOf, jobOf}
 use Rattle.racks.specs.declared.Job.{Job}
-use Rattle.tables.specs.Tables.{tableNumber}
+use Rattle.tables.specs.parts.Tables.{tableNumber}
 use Rattle.tables.proofs.Tables.{listed-by}
 use Rattle.copies.specs.Copies.{copyList, copyChecks, copied}
-use Rattle.copies.specs.Writes.{putCopies, AllWritten, fits, listedHere, copyNumber, copiedBy}
-use Rattle.copies.specs.Chains.{Chained}
+use Rattle.copies.specs.parts.Writes.{putCopies, AllWritten, fits, listedHere, copyNumber, copiedBy}
+use Rattle.copies.specs.parts.Chains.{Chained}
 use Rattle.copies.proofs.Costs.{list-most}
 
 -- three numbers a slot are enough

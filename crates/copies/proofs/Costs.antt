@@ -11,7 +11,7 @@ use Rattle.counting.specs.Lists.{last, join, each}
 use Rattle.counting.proofs.Tests.{by-test}
 use Rattle.racks.specs.Limits.{FREE}
 use Rattle.copies.specs.Copies.{next, shift, cycle, copies, factors, copyList}
-use Rattle.copies.specs.Chains.{Chained}
+use Rattle.copies.specs.parts.Chains.{Chained}
 use Rattle.copies.proofs.Members.{pigeon}
 use Rattle.copies.proofs.Factors.{factors-once, factors-slots}
 

@@ -17,7 +17,7 @@ use Rattle.counting.proofs.Count.{count-zero, count-cong, count-change}
 use Rattle.racks.specs.Limits.{FREE}
 use Rattle.racks.specs.Table.{dest, free, settled}
 use Rattle.copies.specs.Copies.{next, onward, head, factor, copies, factors, copyList}
-use Rattle.copies.specs.Chains.{Chained}
+use Rattle.copies.specs.parts.Chains.{Chained}
 use Rattle.counting.specs.Every.{In, Distinct}
 use Rattle.copies.proofs.Members.{in-among, among-off, among-none, among-other, last-in}
 use Rattle.copies.proofs.Walks.{Path, Ends}

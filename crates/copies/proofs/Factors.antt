@@ -12,7 +12,7 @@ use Rattle.counting.specs.Every.All.{more, none}
 use Rattle.counting.specs.Every.Pairwise.{end, link}
 use Rattle.racks.specs.Limits.{FREE}
 use Rattle.copies.specs.Copies.{next, source, onward, back, head, factor, factorsFrom, factors}
-use Rattle.copies.specs.Chains.{Chained}
+use Rattle.copies.specs.parts.Chains.{Chained}
 use Rattle.copies.proofs.Members.{in?, in-among, among-off, in-left, in-right, in-cases, last-in, distinct-append}
 use Rattle.copies.proofs.Walks.{Ends, Path, comes-from, goes-to}
 use Rattle.copies.proofs.Chains.{next-has, source-next, next-source, onward-low, onward-distinct, onward-path, onward-ends, back-path, head-cases, head-low}

@@ -12,7 +12,7 @@ use Rattle.counting.proofs.Every.{all-append}
 use Rattle.counting.specs.Every.All.{more, none}
 use Rattle.racks.specs.Limits.{FREE, HAND}
 use Rattle.copies.specs.Copies.{next, onward, head, factor, shift, cycle, copies, copyList}
-use Rattle.copies.specs.Chains.{Chained, Proper}
+use Rattle.copies.specs.parts.Chains.{Chained, Proper}
 use Rattle.copies.proofs.Members.{in?, in-left, in-right, in-cases, last-in}
 use Rattle.copies.proofs.Chains.{next-has, onward-low, onward-distinct, onward-path, onward-ends, head-low}
 use Rattle.copies.proofs.Factors.{Factored, factors-are, factor-next}

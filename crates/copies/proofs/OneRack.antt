@@ -14,7 +14,7 @@ use Rattle.racks.specs.Limits.{FREE}
 use Rattle.racks.specs.Racks.{Rack, slots, rackOf}
 use Rattle.racks.specs.Table.{dest, free, rackTo, away}
 use Rattle.racks.specs.Numbers.{someAway}
-use Rattle.racks.specs.Legal.{Legal}
+use Rattle.racks.specs.parts.Legal.{Legal}
 use Rattle.racks.proofs.Away.{away-is}
 use Rattle.copies.specs.Copies.{next, onward, head, factor}
 use Rattle.counting.specs.Every.{In}

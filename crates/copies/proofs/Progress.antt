@@ -13,8 +13,8 @@ use Rattle.counting.specs.Lists.{Pair, join, each, among}
 use Rattle.counting.proofs.Tests.{by-test}
 use Rattle.counting.proofs.Members.{among-append}
 use Rattle.copies.specs.Copies.{factor, factorsFrom, factors, copies, copyList}
-use Rattle.copies.specs.Chains.{Chained}
-use Rattle.copies.specs.Writes.{putCopies, walked, walkCount, Unmarked, Marked, due, Walked, Counted, Written, AllWritten}
+use Rattle.copies.specs.parts.Chains.{Chained}
+use Rattle.copies.specs.parts.Writes.{putCopies, walked, walkCount, Unmarked, Marked, due, Walked, Counted, Written, AllWritten}
 use Rattle.copies.proofs.Costs.{list-most}
 use Rattle.copies.proofs.Walking.{mark-none}
 use Rattle.copies.proofs.Writing.{put-none, put-append, length-walked}

@@ -13,20 +13,20 @@ use Rattle.counting.specs.Count.{seek}
 use Rattle.racks.specs.Limits.{FREE}
 use Rattle.racks.specs.Table.{dest, names}
 use Rattle.copies.specs.Copies.{source}
-use Rattle.copies.specs.Chains.{Chained}
-use Rattle.tables.specs.Tables.{namedSlot}
-use Rattle.copies.specs.Writes.{noSources, Sources, putSource}
+use Rattle.copies.specs.parts.Chains.{Chained}
+use Rattle.tables.specs.parts.Tables.{namedSlot}
+use Rattle.copies.specs.parts.Writes.{noSources, Sources, putSource}
 use Rattle.copies.proofs.Chains.{next-is}
 
 -- the sources among the first g slots are in the table
-pub record SourcesTo (places : List ℕ) (g : ℕ) (table : List ℕ) : Type 0 where
-  pub sources : (d : ℕ) → d < 4096 → getD table d 0 ≡ seek FREE g (names places d)
-  pub long : length table ≡ 4097
+pub record SourcesTo (places : List ℕ) (g : ℕ) (noted : List ℕ) : Type 0 where
+  pub sources : (d : ℕ) → d < 4096 → getD noted d 0 ≡ seek FREE g (names places d)
+  pub long : length noted ≡ 4097
 
 -- the card in slot g makes g the source of its destination
-pub put-source-is : (table : List ℕ) (x g to : ℕ) → to ≡ namedSlot 4096 x → set table to g ≡ putSource table x g
+pub put-source-is : (noted : List ℕ) (x g to : ℕ) → to ≡ namedSlot 4096 x → set noted to g ≡ putSource noted x g
 unfolding putSource
-put-source-is table x g to e = rw e
+put-source-is noted x g to e = rw e
 
 -- an entry that is free, or names a slot, has a place in the table
 pub source-place : (x : ℕ) → (x ≢ FREE → x < 4096) → namedSlot 4096 x < 4097
@@ -46,35 +46,35 @@ seek-off places g d q = rw (add-one g, ne-eqb (dest places g) d q)
 
 module _ (places : List ℕ) where
   -- at first there are none
-  pub sources-none : (table : List ℕ) → table ≡ noSources → SourcesTo places 0 table
+  pub sources-none : (noted : List ℕ) → noted ≡ noSources → SourcesTo places 0 noted
   unfolding seek
-  sources-none table e = rw e (record { sources = λ d l. getD-replicate 4097 d 65535 0 (omega arith); long = length-replicate {A = ℕ} 4097 65535 })
+  sources-none noted e = rw e (record { sources = λ d l. getD-replicate 4097 d 65535 0 (omega arith); long = length-replicate {A = ℕ} 4097 65535 })
 
   -- one slot's entry more
-  pub sources-more : (g : ℕ) (table after : List ℕ) → SourcesTo places g table → after ≡ putSource table (dest places g) g → SourcesTo places (g + 1) after
+  pub sources-more : (g : ℕ) (noted after : List ℕ) → SourcesTo places g noted → after ≡ putSource noted (dest places g) g → SourcesTo places (g + 1) after
   unfolding putSource namedSlot
-  sources-more g table after s e = elim (ℕ-discrete (dest places g) FREE) [
+  sources-more g noted after s e = elim (ℕ-discrete (dest places g) FREE) [
     | yes f ↦
-        let put : after ≡ set table 4096 g = e ∙ rw (eq-eqb (dest places g) FREE f) in
+        let put : after ≡ set noted 4096 g = e ∙ rw (eq-eqb (dest places g) FREE f) in
         rw put (record {
-          sources = λ d l. getD-set-other table 4096 d g 0 (λ i. omega arith) ∙ s .sources d l ∙ sym (seek-off places g d (λ i. omega arith));
-          long = length-set table 4096 g ∙ s .long;
+          sources = λ d l. getD-set-other noted 4096 d g 0 (λ i. omega arith) ∙ s .sources d l ∙ sym (seek-off places g d (λ i. omega arith));
+          long = length-set noted 4096 g ∙ s .long;
         })
     | no q ↦
-        let put : after ≡ set table (dest places g) g = e ∙ rw (ne-eqb (dest places g) FREE q) in
+        let put : after ≡ set noted (dest places g) g = e ∙ rw (ne-eqb (dest places g) FREE q) in
         rw put (record {
           sources = λ d l. elim (ℕ-discrete d (dest places g)) [
-            | yes i ↦ rw i (getD-set-same table (dest places g) g 0 (omega (arith, s .long)) ∙ sym (seek-on places g (dest places g) refl))
-            | no i ↦ getD-set-other table (dest places g) d g 0 i ∙ s .sources d l ∙ sym (seek-off places g d (λ j. i (sym j)))
+            | yes i ↦ rw i (getD-set-same noted (dest places g) g 0 (omega (arith, s .long)) ∙ sym (seek-on places g (dest places g) refl))
+            | no i ↦ getD-set-other noted (dest places g) d g 0 i ∙ s .sources d l ∙ sym (seek-off places g d (λ j. i (sym j)))
           ];
-          long = length-set table (dest places g) g ∙ s .long;
+          long = length-set noted (dest places g) g ∙ s .long;
         })
   ]
 
   -- after all entries the table is the inverse
-  pub sources-all : (g : ℕ) (table : List ℕ) → g ≡ length places → SourcesTo places g table → Sources places table
+  pub sources-all : (g : ℕ) (noted : List ℕ) → g ≡ length places → SourcesTo places g noted → Sources places noted
   unfolding source
-  sources-all g table e s = record { sources = λ d l. s .sources d l ∙ ap (λ (n : ℕ). seek FREE n (names places d)) e; long = s .long }
+  sources-all g noted e s = record { sources = λ d l. s .sources d l ∙ ap (λ (n : ℕ). seek FREE n (names places d)) e; long = s .long }
 
 -- a card's destination is a slot of the table
 pub entry-low : {places : List ℕ} → Chained places → (g : ℕ) → g < length places → dest places g ≢ FREE → dest places g < length places

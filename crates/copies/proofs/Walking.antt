@@ -14,8 +14,8 @@ use Rattle.counting.proofs.Members.{among-append}
 use Rattle.counting.proofs.Tests.{by-test, pick-same}
 use Rattle.racks.specs.Limits.{FREE}
 use Rattle.copies.specs.Copies.{next, source, after, onward, back}
-use Rattle.copies.specs.Chains.{Chained}
-use Rattle.copies.specs.Writes.{Marked, MarkedOn, MarkedBack, handEnd}
+use Rattle.copies.specs.parts.Chains.{Chained}
+use Rattle.copies.specs.parts.Writes.{Marked, MarkedOn, MarkedBack, handEnd}
 use Rattle.copies.proofs.Walks.{Ends, after-stop, after-go}
 use Rattle.copies.proofs.Chains.{back-short, onward-short}
 

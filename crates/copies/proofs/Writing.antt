@@ -17,8 +17,8 @@ use Rattle.counting.proofs.Members.{among-append}
 use Rattle.counting.proofs.Tests.{by-test}
 use Rattle.racks.specs.Limits.{FREE, HAND}
 use Rattle.copies.specs.Copies.{next, source, onward, back, head, factor, shift, cycle, copies}
-use Rattle.copies.specs.Chains.{Chained}
-use Rattle.copies.specs.Writes.{putCopies, steps, Inside, walked, walkCount, handEnd, Marked, MarkedOn, MarkedBack, Walked}
+use Rattle.copies.specs.parts.Chains.{Chained}
+use Rattle.copies.specs.parts.Writes.{putCopies, steps, Inside, walked, walkCount, handEnd, Marked, MarkedOn, MarkedBack, Walked}
 use Rattle.counting.specs.Every.{In}
 use Rattle.counting.proofs.Stores.{length-flat, flat-append, sets-append, sets-take}
 use Rattle.copies.proofs.Walks.{Path, after-stop}

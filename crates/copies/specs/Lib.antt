@@ -1,4 +1,3 @@
 pub mod Copies
-pub mod Chains
-pub mod Writes
 pub mod Factors
+pub mod parts

@@ -17,7 +17,7 @@ use Rattle.racks.specs.Racks.{Rack, ofCaps, rackAt, users, width, total, base, 
 use Rattle.racks.specs.Table.{free, names}
 use Rattle.racks.specs.Numbers.{badCount, badBytes, tooLarge, badSize, badPlaces, badCards, badEntry, badEntries, repeats, badTwice, tableChecks, cardChecks}
 use Rattle.racks.specs.Job.{rackChecks}
-use Rattle.racks.specs.Legal.{Legal}
+use Rattle.racks.specs.parts.Legal.{Legal}
 use Rattle.racks.proofs.Legal.{table-clear}
 use Rattle.racks.proofs.LegalTable.{legal, legal-checks}
 use Rattle.racks.proofs.Caps.{slots-small}

@@ -14,11 +14,12 @@ use Rattle.counting.proofs.Checks.{first-clear, first-past}
 use Rattle.racks.specs.Racks.{Rack, slots}
 use Rattle.racks.specs.Table.{aways}
 use Rattle.racks.specs.Numbers.{cardChecks}
-use Rattle.racks.specs.Legal.{Legal, Spared}
+use Rattle.racks.specs.parts.Legal.{Legal, Spared}
 use Rattle.moves.specs.Moves.{Held, carriedPlaces, carriedCards, carried, endChecks, moveChecks, moved}
 use Rattle.moves.specs.Phases.{budgeted}
-use Rattle.moves.proofs.Carry.{InTurn, in-turn-append, legal-carried, length-carried-cards, carried-append}
-use Rattle.moves.proofs.Carry.InTurn.{stop, next}
+use Rattle.moves.specs.Turns.{InTurn}
+use Rattle.moves.proofs.Carry.{in-turn-append, legal-carried, length-carried-cards, carried-append}
+use Rattle.moves.specs.Turns.InTurn.{stop, next}
 use Rattle.moves.proofs.Ends.{ends-allowed}
 use Rattle.tables.proofs.Tables.{cards-marked}
 use Rattle.moves.proofs.Phases.{budget-in-turn, budget-length}

@@ -13,7 +13,7 @@ use Rattle.racks.proofs.Caps.{length-caps, users-caps, slots-caps}
 use Rattle.racks.proofs.Geometry.{rack-lt, rack-in, rack-is}
 use Rattle.tables.specs.Check.{checked}
 use Rattle.slots.specs.Slots.{slotChecks, asked}
-use Rattle.phases.specs.Plan.{planChecks, planned}
+use Rattle.plans.specs.Plan.{planChecks, planned}
 use Rattle.moves.specs.Moves.{moveChecks, moved}
 use Rattle.moves.specs.Phases.{budgeted}
 use Rattle.copies.specs.Copies.{copyChecks, copied}
@@ -26,7 +26,7 @@ use Rattle.jobreader.specs.Reading.{ahead, JobRead}
 use Rattle.jobreader.specs.declared.Reader.{Reader}
 use Rattle.jobreader.specs.declared.JobFile.{JobFile}
 use Rattle.texts.specs.Lines.{refusedLine}
-use Rattle.listed.specs.RunText.{runText}
+use Rattle.runtexts.specs.RunText.{runText}
 use Rattle.listing.specs.Listing.{fileHeld, programChecks, listing, handedOver, printed}
 use Rattle.demands.specs.Rows.{None, Holds, Given, _then_}
 use Rattle.demands.specs.FileConditions.{fileRows, NoRoom, FileTooLarge}

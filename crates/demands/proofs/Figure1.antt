@@ -6,13 +6,13 @@ use native.Mathlib.Omega.{arith}
 use lib.ListN.{length, take, length-append}
 use lib.Seq.{take-nil}
 use Rattle.counting.specs.Count.{select}
-use Rattle.counting.specs.Lists.{table, join}
+use Rattle.counting.specs.Lists.{tabulate, join}
 use Rattle.counting.proofs.Select.{length-select}
 use Rattle.counting.proofs.Lists.{take-append, take-min, join-more}
 use Rattle.racks.specs.Racks.{Rack, slots}
 use Rattle.racks.specs.Table.{bound, owes}
-use Rattle.phases.specs.Plan.{room, arrivals, planFor, plan}
-use Rattle.phases.proofs.Grants.{cardsFor, own-owes, racks-all, arrivals-are, plan-for-is}
+use Rattle.plans.specs.Plan.{room, arrivals, planFor, plan}
+use Rattle.plans.proofs.Grants.{cardsFor, own-owes, racks-all, arrivals-are, plan-for-is}
 use Rattle.demands.specs.Figure1.{r, recv, dueTo, received, figure1For, figure1, bySlotFor, bySlot}
 
 -- a list of length 0
@@ -21,10 +21,10 @@ empty [] e = refl
 empty (x ∷ l) e = absurd (omega arith)
 
 -- the same lists, the same table of them
-table-cong : {A : Type 0} (n : ℕ) (f g : ℕ → A) → ((k : ℕ) → k < n → f k ≡ g k) → table n f ≡ table n g
-unfolding table
-table-cong zero f g h = refl
-table-cong (suc n) f g h = rw (table-cong n f g (λ k l. h k (omega arith)), h n (omega arith))
+tabulate-cong : {A : Type 0} (n : ℕ) (f g : ℕ → A) → ((k : ℕ) → k < n → f k ≡ g k) → tabulate n f ≡ tabulate n g
+unfolding tabulate
+tabulate-cong zero f g h = refl
+tabulate-cong (suc n) f g h = rw (tabulate-cong n f g (λ k l. h k (omega arith)), h n (omega arith))
 
 -- figure 1's loop over any lists: turn by turn it takes what are, of all together, the first
 module _ {A : Type 0} (free : ℕ) (f : ℕ → List A) where
@@ -32,18 +32,18 @@ module _ {A : Type 0} (free : ℕ) (f : ℕ → List A) where
   due i = length (f i)
 
   -- r is what is left of free behind those before
-  left : (n : ℕ) → r free due n ≡ free - length (join (table n f))
+  left : (n : ℕ) → r free due n ≡ free - length (join (tabulate n f))
   unfolding r due
-  left zero = unfold table join in omega arith
-  left (suc n) = omega (arith, left n, ap length (join-more n f), length-append (join (table n f)) (f n))
+  left zero = unfold tabulate join in omega arith
+  left (suc n) = omega (arith, left n, ap length (join-more n f), length-append (join (tabulate n f)) (f n))
 
-  pub loop-takes : (n : ℕ) → join (table n (λ i. take (recv free (λ i. length (f i)) i) (f i))) ≡ take free (join (table n f))
+  pub loop-takes : (n : ℕ) → join (tabulate n (λ i. take (recv free (λ i. length (f i)) i) (f i))) ≡ take free (join (tabulate n f))
   unfolding recv due
-  loop-takes zero = unfold table join in sym (take-nil {A = A} free)
+  loop-takes zero = unfold tabulate join in sym (take-nil {A = A} free)
   loop-takes (suc n) =
       join-more n (λ i. take (recv free (λ i. length (f i)) i) (f i))
       ∙ rw (loop-takes n, take-min (r free (λ i. length (f i)) n) (f n), left n, join-more n f)
-      (sym (take-append free (join (table n f)) (f n)))
+      (sym (take-append free (join (tabulate n f)) (f n)))
 
 module _ (racks : List Rack) (places : List ℕ) where
   module _ (p : ℕ) where
@@ -60,9 +60,9 @@ module _ (racks : List Rack) (places : List ℕ) where
         (fun-ext (λ j. sym (length-select (slots racks) (bound racks places j p))))
 
     -- what figure 1 has rack p receive are the arrivals
-    pub received-are : join (table (length racks) (received racks places p)) ≡ arrivals racks places p
+    pub received-are : join (tabulate (length racks) (received racks places p)) ≡ arrivals racks places p
     received-are =
-        ap join (table-cong (length racks) (received racks places p) _ (λ i _. same i))
+        ap join (tabulate-cong (length racks) (received racks places p) _ (λ i _. same i))
         ∙ loop-takes (room racks places p) (cardsFor racks places p) (length racks)
         ∙ ap (take (room racks places p)) (racks-all racks places p)
         ∙ sym (arrivals-are racks places p)
@@ -74,9 +74,9 @@ module _ (racks : List Rack) (places : List ℕ) where
   -- the plan is figure 1's
   pub plan-figure1 : plan racks places ≡ figure1 racks places
   unfolding plan figure1
-  plan-figure1 = ap join (table-cong (length racks) (planFor racks places) (figure1For racks places) (λ p _. sym (figure1-for p)))
+  plan-figure1 = ap join (tabulate-cong (length racks) (planFor racks places) (figure1For racks places) (λ p _. sym (figure1-for p)))
 
   -- and the same by slots alone
   pub plan-by-slot : plan racks places ≡ bySlot racks places
   unfolding plan bySlot bySlotFor
-  plan-by-slot = ap join (table-cong (length racks) (planFor racks places) (bySlotFor racks places) (λ p _. plan-for-is racks places p))
+  plan-by-slot = ap join (tabulate-cong (length racks) (planFor racks places) (bySlotFor racks places) (λ p _. plan-for-is racks places p))

@@ -12,7 +12,7 @@ use Rattle.counting.specs.Lists.{Pair, join}
 use Rattle.counting.specs.Checks.{first}
 use Rattle.counting.proofs.Tests.{off}
 use Rattle.counting.proofs.Checks.{first-clear, first-past, first-later, first-none}
-use Rattle.counting.proofs.Lists.{length-table}
+use Rattle.counting.proofs.Lists.{length-tabulate}
 use Rattle.racks.specs.Limits.{FREE}
 use Rattle.racks.specs.Racks.{Rack, slots}
 use Rattle.racks.specs.Table.{dest, free, aways}
@@ -47,7 +47,7 @@ module _ {racks : List Rack} {b : ℕ} {h : Held} (s : Start racks b h) (small :
 
   settled-places : length (settledHeld racks b h .places) ≡ slots racks
   unfolding settledHeld
-  settled-places = length-table (slots racks) (lastEntry (h .places))
+  settled-places = length-tabulate (slots racks) (lastEntry (h .places))
 
   settled-cards : length (settledHeld racks b h .cards) ≡ slots racks * b
   unfolding settledHeld

@@ -7,8 +7,7 @@ use denote.Ref.{RefT, now}
 use Rattle.answers.specs.Answers.{Listed, listedOf}
 use Rattle.answers.specs.declared.Answer.{Answer}
 use Rattle.answers.specs.declared.Answer as layers
-use Rattle.moves.specs.Moves.{Outcome}
-use Rattle.moves.specs.Parts.{outcomeOf}
+use Rattle.moves.specs.Moves.{Outcome, outcomeOf}
 use Rattle.jobfile.specs.Numeral.{Got, numeral}
 use Rattle.jobfile.specs.File.{Read}
 use Rattle.jobfile.specs.Answers.{readOf, gotOf}

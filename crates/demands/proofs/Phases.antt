@@ -12,13 +12,14 @@ use Rattle.counting.proofs.Every.{all-map}
 use Rattle.racks.specs.Racks.{Rack, slots}
 use Rattle.racks.specs.Table.{away, aways}
 use Rattle.racks.specs.Numbers.{someAway}
-use Rattle.phases.specs.Plan.{plan}
-use Rattle.phases.proofs.Plans.{plan-allowed, plan-apart}
-use Rattle.phases.proofs.Possible.{plan-some}
+use Rattle.plans.specs.Plan.{plan}
+use Rattle.plans.proofs.Plans.{plan-allowed, plan-apart}
+use Rattle.plans.proofs.Possible.{plan-some}
 use Rattle.moves.specs.Moves.{Held, carriedPlaces, carried, moved}
 use Rattle.moves.specs.Phases.{phases}
-use Rattle.moves.proofs.Carry.{InTurn, pairs-in-turn, places-append, owes-carried}
-use Rattle.moves.proofs.Carry.InTurn.{stop, next}
+use Rattle.moves.specs.Turns.{InTurn}
+use Rattle.moves.proofs.Carry.{pairs-in-turn, places-append, owes-carried}
+use Rattle.moves.specs.Turns.InTurn.{stop, next}
 use Rattle.moves.proofs.Phases.{Run, phases-run, phases-in-turn, aways-some}
 use Rattle.moves.proofs.Phases.Run.{over, phase}
 use Rattle.moves.proofs.FirstFit.{first-fit}

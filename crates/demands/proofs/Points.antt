@@ -22,15 +22,16 @@ use Rattle.racks.specs.Limits.{FREE}
 use Rattle.racks.specs.Racks.{Rack, slots}
 use Rattle.racks.specs.Table.{dest, free, rackTo, away, aways, awayTo, names}
 use Rattle.answers.specs.Answers.{answer, movesOf}
-use Rattle.racks.specs.Legal.{Legal}
+use Rattle.racks.specs.parts.Legal.{Legal}
 use Rattle.racks.proofs.Away.{to-away, to-is}
-use Rattle.phases.proofs.Allowed.{Allowed}
-use Rattle.phases.proofs.Possible.{possible}
+use Rattle.plans.specs.Allowed.{Allowed}
+use Rattle.plans.proofs.Possible.{possible}
 use Rattle.moves.specs.Blocks.{block}
 use Rattle.moves.specs.Moves.{Held, movedPlaces, carriedPlaces, carriedCards, carried, moveChecks, moved}
 use Rattle.moves.proofs.Moved.{to-moved}
-use Rattle.moves.proofs.Carry.{InTurn, in-turn-take, aways-carried, carried-append}
-use Rattle.moves.proofs.Carry.InTurn.{stop, next}
+use Rattle.moves.specs.Turns.{InTurn}
+use Rattle.moves.proofs.Carry.{in-turn-take, aways-carried, carried-append}
+use Rattle.moves.specs.Turns.InTurn.{stop, next}
 use Rattle.moves.proofs.Ends.{allowed-ends}
 use Rattle.moves.proofs.Kept.{card-carried}
 use Rattle.demands.proofs.Calls.{Start, start-legal, start-long, start-carried, move-number}

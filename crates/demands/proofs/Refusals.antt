@@ -6,7 +6,7 @@ use Prim.Native.Nat.{ℕ}
 use borrow.Author.Tests.{ne-eqb}
 use Rattle.tables.specs.Check.{checked}
 use Rattle.slots.specs.Slots.{asked}
-use Rattle.phases.specs.Plan.{planned}
+use Rattle.plans.specs.Plan.{planned}
 use Rattle.moves.specs.Moves.{moved}
 use Rattle.moves.specs.Phases.{budgeted}
 use Rattle.copies.specs.Copies.{copied}

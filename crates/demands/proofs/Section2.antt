@@ -10,7 +10,7 @@ use Rattle.counting.proofs.Every.{all-map}
 use Rattle.racks.specs.Limits.{FREE, HAND}
 use Rattle.racks.specs.Table.{dest}
 use Rattle.copies.specs.Copies.{next, source, onward, head, factor, shift, cycle, copyList}
-use Rattle.copies.specs.Chains.{Chained}
+use Rattle.copies.specs.parts.Chains.{Chained}
 use Rattle.counting.specs.Every.{In}
 use Rattle.copies.proofs.Members.{last-in}
 use Rattle.copies.proofs.Walks.{Path, Ends}

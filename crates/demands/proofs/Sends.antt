@@ -11,7 +11,7 @@ use lib.ListN.{length, length-take}
 use borrow.Author.Tests.{eqb-true, eq-eqb, ne-eqb}
 use Rattle.counting.specs.Tests.{bit}
 use Rattle.counting.specs.Count.{select}
-use Rattle.counting.specs.Lists.{table, join, pairUp, matching}
+use Rattle.counting.specs.Lists.{tabulate, join, pairUp, matching}
 use Rattle.counting.proofs.Tests.{and-r, and-true, and-off-r}
 use Rattle.counting.specs.Every.{All}
 use Rattle.counting.proofs.Every.{all-map, all-take}
@@ -21,9 +21,9 @@ use Rattle.counting.proofs.Lists.{join-more, matching-append}
 use Rattle.racks.specs.Racks.{Rack, slots, rackOf}
 use Rattle.racks.specs.Table.{awayTo, bound, owes, freeOn}
 use Rattle.racks.proofs.Away.{on-rack}
-use Rattle.phases.specs.Plan.{openSlots, room, arrivals, planFor, plan}
-use Rattle.phases.proofs.Grants.{length-arrivals, length-open}
-use Rattle.phases.proofs.Plans.{plan-for-serves}
+use Rattle.plans.specs.Plan.{openSlots, room, arrivals, planFor, plan}
+use Rattle.plans.proofs.Grants.{length-arrivals, length-open}
+use Rattle.plans.proofs.Plans.{plan-for-serves}
 use Rattle.moves.specs.Moves.{between}
 use Rattle.demands.specs.Figure1.{recv, dueTo, received}
 use Rattle.demands.proofs.Figure1.{received-are}
@@ -42,15 +42,15 @@ module _ {A : Type 0} (f : A → Bool) where
   matching-all (more e r) = omega (arith, ap bit e, matching-all r)
 
   module _ (g : ℕ → List A) where
-    one-more : (n : ℕ) → matching f (join (table (suc n) g)) ≡ matching f (join (table n g)) + matching f (g n)
-    one-more n = ap (matching f) (join-more n g) ∙ matching-append f (join (table n g)) (g n)
+    one-more : (n : ℕ) → matching f (join (tabulate (suc n) g)) ≡ matching f (join (tabulate n g)) + matching f (g n)
+    one-more n = ap (matching f) (join-more n g) ∙ matching-append f (join (tabulate n g)) (g n)
 
-    joined-none : (n : ℕ) → ((j : ℕ) → j < n → matching f (g j) ≡ 0) → matching f (join (table n g)) ≡ 0
-    joined-none zero h = unfold table join matching in refl
+    joined-none : (n : ℕ) → ((j : ℕ) → j < n → matching f (g j) ≡ 0) → matching f (join (tabulate n g)) ≡ 0
+    joined-none zero h = unfold tabulate join matching in refl
     joined-none (suc n) h = omega (arith, one-more n, joined-none n (λ j l. h j (omega arith)), h n (omega arith))
 
     -- of lists one after another, only one has members that pass
-    joined-one : (k n : ℕ) → k < n → ((j : ℕ) → j < n → j ≢ k → matching f (g j) ≡ 0) → matching f (join (table n g)) ≡ matching f (g k)
+    joined-one : (k n : ℕ) → k < n → ((j : ℕ) → j < n → j ≢ k → matching f (g j) ≡ 0) → matching f (join (tabulate n g)) ≡ matching f (g k)
     joined-one k zero l h = absurd (omega arith)
     joined-one k (suc n) l h = elim (ℕ-discrete n k) [
       | yes e ↦ one-more n ∙ rw (← e) (omega (arith, joined-none n (λ j m. h j (omega arith) (λ q. omega arith))))

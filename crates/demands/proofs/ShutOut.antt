@@ -10,7 +10,7 @@ use Rattle.counting.specs.Checks.{first}
 use Rattle.counting.proofs.Select.{length-select}
 use Rattle.racks.specs.Racks.{ofCaps, slots}
 use Rattle.racks.specs.Table.{aways}
-use Rattle.racks.specs.Legal.{Legal}
+use Rattle.racks.specs.parts.Legal.{Legal}
 use Rattle.racks.specs.Numbers.{cardChecks}
 use Rattle.answers.specs.Answers.{Listed}
 use Rattle.answers.specs.declared.Tally.{Tally}

@@ -13,7 +13,7 @@ use Rattle.answers.specs.Answers.{noCounts}
 use Rattle.answers.specs.declared.Answer.{Answer}
 use Rattle.tables.specs.Check.{checked}
 use Rattle.slots.specs.Slots.{nothing, asked}
-use Rattle.phases.specs.Plan.{plan, planned}
+use Rattle.plans.specs.Plan.{plan, planned}
 use Rattle.moves.specs.Moves.{Held, moved}
 use Rattle.moves.specs.Phases.{budgeted}
 use Rattle.copies.specs.Copies.{copyList, copied}
@@ -25,7 +25,7 @@ use Rattle.jobreader.specs.Reading.{ahead, JobRead}
 use Rattle.jobreader.specs.declared.Reader.{Reader}
 use Rattle.jobreader.specs.declared.JobFile.{JobFile}
 use Rattle.texts.specs.Lines.{refusedLine}
-use Rattle.listed.specs.RunText.{runText}
+use Rattle.runtexts.specs.RunText.{runText}
 use Rattle.listing.specs.Listing.{fileHeld, listing, printed}
 use Rattle.demands.specs.OneOutcome.{jobSeen}
 use Rattle.demands.specs.Rows.{None, Holds, Given, _then_}

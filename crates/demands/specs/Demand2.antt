@@ -11,7 +11,7 @@ use Rattle.racks.specs.Limits.{FREE}
 use Rattle.racks.specs.Racks.{Rack, slots, rackOf}
 use Rattle.racks.specs.Table.{dest, aways, owes}
 use Rattle.answers.specs.Answers.{answer, movesOf}
-use Rattle.phases.specs.Plan.{room, plan}
+use Rattle.plans.specs.Plan.{room, plan}
 use Rattle.moves.specs.Blocks.{block, blank}
 use Rattle.moves.specs.Moves.{Held, carried, between, moved, Disjoint}
 use Rattle.moves.specs.Phases.{phases, budgeted}

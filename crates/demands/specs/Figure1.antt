@@ -3,10 +3,10 @@ use mathlib.Core.List.{List}
 use Prim.Native.Nat.{ℕ, zero, suc, _-_, min}
 use lib.ListN.{length, take}
 use Rattle.counting.specs.Count.{select}
-use Rattle.counting.specs.Lists.{Pair, table, join, pairUp}
+use Rattle.counting.specs.Lists.{Pair, tabulate, join, pairUp}
 use Rattle.racks.specs.Racks.{Rack, slots}
 use Rattle.racks.specs.Table.{awayTo, bound, owes}
-use Rattle.phases.specs.Plan.{openSlots, room}
+use Rattle.plans.specs.Plan.{openSlots, room}
 
 -- r before turn i of the loop, on a process with `free` spaces and in = `due`: line 10, and line 13 after each turn
 unfoldable pub r : ℕ → (ℕ → ℕ) → ℕ → ℕ
@@ -27,15 +27,15 @@ received racks places p i = take (recv (room racks places p) (dueTo racks places
 
 -- what rack p receives, from rack 0 to rack N - 1, into its free slots from the lowest up
 unfoldable pub figure1For : List Rack → List ℕ → ℕ → List Pair
-figure1For racks places p = pairUp (join (table (length racks) (received racks places p))) (openSlots racks places p)
+figure1For racks places p = pairUp (join (tabulate (length racks) (received racks places p))) (openSlots racks places p)
 
 -- and all racks so
 unfoldable pub figure1 : List Rack → List ℕ → List Pair
-figure1 racks places = join (table (length racks) (figure1For racks places))
+figure1 racks places = join (tabulate (length racks) (figure1For racks places))
 
 -- the same by slots alone: the cards away to p, ascending, with p's free slots, ascending, as far as both go
 unfoldable pub bySlotFor : List Rack → List ℕ → ℕ → List Pair
 bySlotFor racks places p = pairUp (select (slots racks) (awayTo racks places p)) (openSlots racks places p)
 
 unfoldable pub bySlot : List Rack → List ℕ → List Pair
-bySlot racks places = join (table (length racks) (bySlotFor racks places))
+bySlot racks places = join (tabulate (length racks) (bySlotFor racks places))

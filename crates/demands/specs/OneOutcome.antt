@@ -14,10 +14,9 @@ use Rattle.answers.specs.declared.Answer.{Answer}
 use Rattle.tables.specs.Check.{checked}
 use Rattle.slots.specs.Slots.{asked}
 use Rattle.slots.specs.declared.SlotAnswer.{SlotAnswer}
-use Rattle.phases.specs.Plan.{planned}
-use Rattle.moves.specs.Moves.{moved}
+use Rattle.plans.specs.Plan.{planned}
+use Rattle.moves.specs.Moves.{moved, held, outcomeOf}
 use Rattle.moves.specs.Phases.{budgeted}
-use Rattle.moves.specs.Parts.{held, outcomeOf}
 use Rattle.copies.specs.Copies.{copied}
 use Rattle.shuffle.specs.Shuffle.{shuffled}
 use Rattle.runs.specs.Run.{ran}

@@ -6,19 +6,18 @@ use Rattle.counting.specs.Lists.{Pair}
 use Rattle.racks.specs.Limits.{FREE, HAND}
 use Rattle.racks.specs.Racks.{Rack}
 use Rattle.answers.specs.Answers.{answer, noCounts}
-use Rattle.moves.specs.Moves.{Held}
+use Rattle.moves.specs.Moves.{Held, movedPlaces, movedCards, carriedPlaces, carriedCards, endChecks, moveChecks, moved}
 use Rattle.texts.specs.Text.{text}
 use Rattle.counting.specs.Tests.{_and_, _or_}
 use Rattle.counting.specs.Count.{sum, count, some, select, seek}
-use Rattle.counting.specs.Lists.{table, join, each, pairUp, flat, matching, among, last}
+use Rattle.counting.specs.Lists.{tabulate, join, each, pairUp, flat, matching, among, last}
 use Rattle.counting.specs.Checks.{first}
 use Rattle.racks.specs.Racks.{ofCaps, rackAt, users, width, total, base, slots, endsBy, rackOf, spareOf, isUser}
 use Rattle.racks.specs.Table.{free, settled, rackTo, onRack, away, aways, awayTo, bound, owes, freeOn, names}
 use Rattle.racks.specs.Numbers.{badCount, badBytes, tooLarge, badSize, badPlaces, badCards, badEntry, badEntries, repeats, badTwice, noSlot, sourceFree, sourceHome, elsewhere, targetTaken, someAway, tooShort, tableChecks, cardChecks}
 use Rattle.tables.specs.Check.{checked}
-use Rattle.phases.specs.Plan.{other, sources, lowest, granted, openSlots, room, arrivals, planFor, plan}
+use Rattle.plans.specs.Plan.{other, sources, lowest, granted, openSlots, room, arrivals, planFor, plan}
 use Rattle.moves.specs.Blocks.{block, putBlock, blank}
-use Rattle.moves.specs.Moves.{movedPlaces, movedCards, carriedPlaces, carriedCards, endChecks, moveChecks, moved}
 use Rattle.moves.specs.Phases.{phasesFrom, phases, budget, budgeted}
 use Rattle.copies.specs.Copies.{next, source, after, onward, back, onCycle, head, factor, factorsFrom, factors, shift, cycle, copies, copyList}
 use Rattle.shuffle.specs.Shuffle.{taken, laid, runCopies, brought, isNamed, lastEntry, lastCard, settledHeld}
@@ -27,7 +26,7 @@ use Rattle.jobfile.specs.Numeral.{groups, numeral, numerals}
 use Rattle.jobfile.specs.File.{wrongN, wrongB, wrongM, wrongEntry, entryOf, readN, readB, readM, fileRacks, readEntries, fileBytes, filePlaces, fileCards, fileChecks}
 use Rattle.texts.specs.Text.{digit, digits, decimal, hex}
 use Rattle.texts.specs.Lines.{slotText, arrow, phaseLine, phaseLines, copiesLine, cardText, cardsLine, endLine, refusedLine}
-use Rattle.listed.specs.RunText.{runText}
+use Rattle.runtexts.specs.RunText.{runText}
 use Rattle.listing.specs.Listing.{programChecks, fileHeld, listing}
 
 -- case 1: the capacities, the racks, the table and the cards, and all of it as a file
@@ -133,5 +132,5 @@ pub record Paper : Type 0 where
   pub eight-long : refusesNumeral (0x80 ∷ 0x80 ∷ 0x80 ∷ []) 14
 
 pub paper : Paper
-unfolding _and_ _or_ sum count some select seek table join each pairUp flat matching among last first ofCaps rackAt users width total base slots endsBy rackOf spareOf isUser free settled rackTo onRack away aways awayTo bound owes freeOn names badCount badBytes tooLarge badSize badPlaces badCards badEntry badEntries repeats badTwice noSlot sourceFree sourceHome elsewhere targetTaken someAway tooShort tableChecks cardChecks checked other sources lowest granted openSlots room arrivals planFor plan block putBlock blank movedPlaces movedCards carriedPlaces carriedCards endChecks moveChecks moved phasesFrom phases budget budgeted next source after onward back onCycle head factor factorsFrom factors shift cycle copies copyList taken laid runCopies brought isNamed lastEntry lastCard settledHeld gathered hasPairs counts groups numeral numerals wrongN wrongB wrongM wrongEntry entryOf readN readB readM fileRacks readEntries fileBytes filePlaces fileCards fileChecks digit digits decimal hex slotText arrow phaseLine phaseLines copiesLine cardText cardsLine endLine refusedLine programChecks fileHeld runText listing
+unfolding _and_ _or_ sum count some select seek tabulate join each pairUp flat matching among last first ofCaps rackAt users width total base slots endsBy rackOf spareOf isUser free settled rackTo onRack away aways awayTo bound owes freeOn names badCount badBytes tooLarge badSize badPlaces badCards badEntry badEntries repeats badTwice noSlot sourceFree sourceHome elsewhere targetTaken someAway tooShort tableChecks cardChecks checked other sources lowest granted openSlots room arrivals planFor plan block putBlock blank movedPlaces movedCards carriedPlaces carriedCards endChecks moveChecks moved phasesFrom phases budget budgeted next source after onward back onCycle head factor factorsFrom factors shift cycle copies copyList taken laid runCopies brought isNamed lastEntry lastCard settledHeld gathered hasPairs counts groups numeral numerals wrongN wrongB wrongM wrongEntry entryOf readN readB readM fileRacks readEntries fileBytes filePlaces fileCards fileChecks digit digits decimal hex slotText arrow phaseLine phaseLines copiesLine cardText cardsLine endLine refusedLine programChecks fileHeld runText listing
 paper = record { shelve = refl; budget4 = refl; one-left = refl; budget0 = refl; budget9 = refl; three = (refl, refl); four = (refl, refl); five = (refl, refl); six-10 = refl; six-8 = refl; six-7 = refl; six-11 = refl; six-9 = refl; seven-spare = refl; seven-twice = refl; seven-both = refl; eight-128 = refl; eight-16384 = refl; eight-padded = refl; eight-cut = refl; eight-long = refl }

@@ -12,7 +12,7 @@ use Rattle.racks.specs.Table.{aways}
 use Rattle.racks.specs.Numbers.{someAway}
 use Rattle.answers.specs.Answers.{Listed}
 use Rattle.answers.specs.declared.Tally.{Tally}
-use Rattle.phases.specs.Plan.{planned}
+use Rattle.plans.specs.Plan.{planned}
 use Rattle.moves.specs.Moves.{Held, Outcome}
 use Rattle.moves.specs.Phases.{phases, budgeted}
 use Rattle.copies.specs.Copies.{copyList}

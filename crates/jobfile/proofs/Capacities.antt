@@ -20,7 +20,7 @@ use Rattle.racks.specs.Numbers.{badSize, tooLarge}
 use Rattle.racks.proofs.Caps.{length-caps, users-caps, size-rack, size-all, size-good, total-is}
 use Rattle.jobfile.specs.Numeral.{refused, numerals}
 use Rattle.jobfile.specs.File.{wrongM}
-use Rattle.jobfile.specs.Parts.{between, outside, room, takenOf, CapsRead}
+use Rattle.jobfile.specs.parts.Parsing.{between, outside, room, takenOf, CapsRead}
 use Rattle.jobfile.proofs.Numerals.{got, reading, passed-good, refused-by, numerals-go, numerals-stop, inside, outside-none, outside-high}
 
 -- capacities that are in order so far

@@ -9,7 +9,7 @@ use lib.Seq.{take-all}
 use borrow.Author.Tests.{eq-eqb, ne-eqb, lt-ltb, le-ltb}
 use Rattle.counting.proofs.Checks.{first-here, first-later, first-none}
 use Rattle.jobfile.specs.Answers.{cardsOf}
-use Rattle.jobfile.specs.Parts.{leftOf, endNumber}
+use Rattle.jobfile.specs.parts.Parsing.{leftOf, endNumber}
 use Rattle.jobfile.specs.declared.FileAnswer.{FileAnswer}
 
 -- 15, 16 or 0, by the tests that the code makes

@@ -22,12 +22,12 @@ use Rattle.racks.specs.Racks.{Rack, slots, isUser}
 use Rattle.racks.specs.Table.{dest, free}
 use Rattle.racks.specs.Numbers.{badEntry, repeats, badTwice}
 use Rattle.racks.proofs.Geometry.{user-none}
-use Rattle.tables.specs.Tables.{Marked}
-use Rattle.tables.specs.Marks.{Entered, worse}
+use Rattle.tables.specs.parts.Tables.{Marked}
+use Rattle.tables.specs.parts.Marks.{Entered, worse}
 use Rattle.tables.proofs.Marks.{Passed, passed-none, passed-cong, passed-more, bad-5, clean-5}
 use Rattle.jobfile.specs.Numeral.{refused, Numerals, numerals}
 use Rattle.jobfile.specs.File.{wrongEntry, entryOf}
-use Rattle.jobfile.specs.Parts.{between, outside, entries, entriesChecks, EntriesRead}
+use Rattle.jobfile.specs.parts.Parsing.{between, outside, entries, entriesChecks, EntriesRead}
 use Rattle.jobfile.proofs.Numerals.{got, stopped, reading, passed-good, refused-by, numerals-go, numerals-stop, numerals-bad, inside, outside-none, outside-high}
 
 -- an entry of the file is wrong where the table's entry is bad

@@ -25,7 +25,7 @@ use Rattle.racks.proofs.Jobs.{job-good, caps-again, caps-sound}
 use Rattle.jobfile.specs.Numeral.{Numerals}
 use Rattle.jobfile.specs.File.{entryOf, readN, readB, readM, readEntries, fileRacks, fileBytes, filePlaces, fileCards, fileChecks, readChecks, read}
 use Rattle.jobfile.specs.Answers.{cardsOf, readOf, refusedFile, doneFile, fileAnswer}
-use Rattle.jobfile.specs.Parts.{headChecks, Headed, entries, entriesChecks, EntriesRead, leftOf, endNumber, Parsed}
+use Rattle.jobfile.specs.parts.Parsing.{headChecks, Headed, entries, entriesChecks, EntriesRead, leftOf, endNumber, Parsed}
 use Rattle.jobfile.specs.declared.FileAnswer.{FileAnswer}
 use Rattle.jobfile.specs.declared.parts.Taken.{Taken}
 use Rattle.jobfile.specs.declared.parts.Head.{Head}

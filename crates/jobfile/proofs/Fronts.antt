@@ -18,7 +18,7 @@ use Rattle.racks.specs.Job.{rackChecks}
 use Rattle.racks.proofs.Caps.{length-caps, count-good, checks-0}
 use Rattle.jobfile.specs.Numeral.{refused, Numerals, numerals}
 use Rattle.jobfile.specs.File.{wrongN, wrongB, wrongM, readN, readB, readM, fileRacks, fileBytes}
-use Rattle.jobfile.specs.Parts.{checkedBy, between, outside, takenOf, CapsRead, noHead, headChecks, HeadRead}
+use Rattle.jobfile.specs.parts.Parsing.{checkedBy, between, outside, takenOf, CapsRead, noHead, headChecks, HeadRead}
 use Rattle.jobfile.specs.declared.parts.Taken.{Taken}
 use Rattle.jobfile.specs.declared.parts.Head.{Head}
 use Rattle.jobfile.proofs.Numerals.{got, stopped, reading, alone, passed-good, refused-by, numerals-go, numerals-stop, inside}

@@ -12,7 +12,7 @@ use borrow.Author.Tests.{eq-eqb, ne-eqb, le-leb, lt-leb}
 use Rattle.counting.specs.Tests.{_and_, pick}
 use Rattle.counting.proofs.Tests.{and-off-l, and-off-r, both}
 use Rattle.jobfile.specs.Numeral.{Got, refused, groups}
-use Rattle.jobfile.specs.Parts.{lastGroup}
+use Rattle.jobfile.specs.parts.Parsing.{lastGroup}
 
 -- the last group, by the tests that the code makes
 module _ (value weight x next : ℕ) where

@@ -12,7 +12,7 @@ use Rattle.counting.proofs.Tests.{by-test, or-l, or-r, or-none}
 use Rattle.counting.proofs.Checks.{first-here, first-later, first-none}
 use Rattle.jobfile.specs.Numeral.{Got, refused, numeral, Numerals, numerals}
 use Rattle.jobfile.specs.Answers.{gotOf}
-use Rattle.jobfile.specs.Parts.{checkedBy, outside}
+use Rattle.jobfile.specs.parts.Parsing.{checkedBy, outside}
 use Rattle.jobfile.specs.declared.Numeral.{Numeral}
 use Rattle.jobfile.specs.declared.Numeral.the-variants.{Value, Refused}
 use Rattle.jobfile.proofs.Groups.{place-some}

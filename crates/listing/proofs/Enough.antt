@@ -16,16 +16,16 @@ use Rattle.racks.specs.Racks.{Rack, slots}
 use Rattle.racks.specs.Table.{aways}
 use Rattle.racks.specs.Numbers.{someAway}
 use Rattle.racks.specs.Limits.{HAND}
-use Rattle.racks.specs.Legal.{Legal, Spared}
-use Rattle.phases.specs.Plan.{plan}
-use Rattle.phases.proofs.Plans.{plan-allowed}
+use Rattle.racks.specs.parts.Legal.{Legal, Spared}
+use Rattle.plans.specs.Plan.{plan}
+use Rattle.plans.proofs.Plans.{plan-allowed}
 use Rattle.moves.specs.Moves.{Held, carriedPlaces}
 use Rattle.moves.specs.Phases.{phasesFrom, phases}
-use Rattle.moves.specs.Parts.{AllSlots}
+use Rattle.moves.specs.parts.Carrying.{AllSlots}
 use Rattle.moves.proofs.Phases.{phases-moves, phases-pairs}
 use Rattle.moves.proofs.FirstFit.{first-fit}
 use Rattle.copies.specs.Copies.{copyList}
-use Rattle.copies.specs.Chains.{Chained}
+use Rattle.copies.specs.parts.Chains.{Chained}
 use Rattle.copies.proofs.Chains.{chained}
 use Rattle.copies.proofs.Costs.{list-most}
 use Rattle.copies.proofs.Home.{list-proper}
@@ -33,9 +33,9 @@ use Rattle.shuffle.specs.Shuffle.{settledHeld}
 use Rattle.runs.specs.Run.{gathered, counts}
 use Rattle.runs.proofs.Rounds.{all-counted}
 use Rattle.texts.specs.Lines.{endLine}
-use Rattle.listed.specs.RunText.{FILE, runText}
+use Rattle.runtexts.specs.RunText.{FILE, runText}
 use Rattle.listing.specs.Listing.{ENOUGH}
-use Rattle.listed.proofs.Settled.{settled-long}
+use Rattle.runtexts.proofs.Settled.{settled-long}
 use Rattle.texts.proofs.Lines.{phases-small, copies-small, length-cards-whole, end-small}
 use Rattle.runs.proofs.Gathering.{legal-gathered}
 

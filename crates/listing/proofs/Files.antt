@@ -14,19 +14,19 @@ use Rattle.racks.specs.Racks.{ofCaps, slots}
 use Rattle.racks.specs.Numbers.{cardChecks, tooShort}
 use Rattle.answers.specs.Answers.{answer, noCounts}
 use Rattle.racks.proofs.LegalTable.{spared-caps}
-use Rattle.moves.specs.Parts.{held}
+use Rattle.moves.specs.Moves.{held}
 use Rattle.copies.proofs.Writing.{take-front}
 use Rattle.tables.proofs.Tables.{cards-pass}
 use Rattle.jobfile.specs.File.{readM, readEntries, fileRacks, fileBytes, filePlaces, fileCards, fileChecks}
 use Rattle.jobfile.specs.Answers.{cardsOf, doneFile}
-use Rattle.jobfile.specs.Parts.{Parsed}
+use Rattle.jobfile.specs.parts.Parsing.{Parsed}
 use Rattle.jobfile.specs.declared.FileAnswer.{FileAnswer}
 use Rattle.jobfile.proofs.Legal.{file-legal, file-small}
 use Rattle.jobfile.proofs.Files.{answer-number}
 use Rattle.texts.specs.Lines.{refusedLine}
-use Rattle.listed.specs.RunText.{FILE, runText}
+use Rattle.runtexts.specs.RunText.{FILE, runText}
 use Rattle.listing.specs.Listing.{ENOUGH, programChecks, fileHeld, listing, handedOver, Printed, printedOf, printed}
-use Rattle.texts.specs.Writing.{Room}
+use Rattle.texts.specs.parts.Writing.{Room}
 use Rattle.texts.specs.declared.TextAnswer.{TextAnswer}
 use Rattle.texts.proofs.Lines.{refused-small}
 use Rattle.listing.proofs.Refusals.{number-most}

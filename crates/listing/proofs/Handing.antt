@@ -11,7 +11,7 @@ use Rattle.counting.proofs.Checks.{first-here, first-later, first-none}
 use Rattle.racks.specs.Numbers.{tooShort}
 use Rattle.answers.specs.Answers.{answer, noCounts}
 use Rattle.answers.specs.declared.Answer.{Answer}
-use Rattle.texts.specs.Writing.{Wrote}
+use Rattle.texts.specs.parts.Writing.{Wrote}
 use Rattle.listing.specs.Listing.{printedOf, handedOver}
 
 -- a text handed over

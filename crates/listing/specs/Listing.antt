@@ -11,7 +11,7 @@ use Rattle.answers.specs.declared.Answer.{Answer}
 use Rattle.moves.specs.Moves.{Held}
 use Rattle.jobfile.specs.File.{fileRacks, fileBytes, filePlaces, fileCards, fileChecks}
 use Rattle.texts.specs.Lines.{refusedLine}
-use Rattle.listed.specs.RunText.{FILE, runText}
+use Rattle.runtexts.specs.RunText.{FILE, runText}
 use Rattle.texts.specs.declared.TextAnswer.{TextAnswer}
 
 -- the program looks at 18 before all else; its own lists have room for every job, so there is no 17

@@ -2,10 +2,10 @@
 ghost use Prim.Native.Nat.{_≤_};
 ghost use mathlib.Core.Path.{_≡_};
 ghost use lib.ListN.{length, take};
-ghost use Rattle.texts.specs.Writing.{Wrote};
+ghost use Rattle.texts.specs.parts.Writing.{Wrote};
 ghost use Rattle.listing.specs.Listing.{ENOUGH, listing, printedOf, handedOver};
 use answers::Answer;
-use listed::parts::jobs;
+use runtexts::parts::jobs;
 use texts::TextAnswer;
 use texts::parts::lines;
 use texts::parts::words;

@@ -11,8 +11,8 @@ use Rattle.racks.specs.Table.{dest}
 use Rattle.answers.specs.Answers.{plusMove, plusMoves}
 use Rattle.answers.specs.declared.Tally.{Tally}
 use Rattle.moves.specs.Blocks.{block, putBlock, blank}
-use Rattle.moves.specs.Moves.{movedPlaces, movedCards, carriedPlaces, carriedCards, Held, carried}
-use Rattle.moves.specs.Parts.{pairsIn, held}
+use Rattle.moves.specs.Moves.{movedPlaces, movedCards, carriedPlaces, carriedCards, Held, carried, held}
+use Rattle.moves.specs.parts.Carrying.{pairsIn}
 use Rattle.moves.proofs.Flat.{pairs-more, pairs-none}
 
 -- one card moved: its entry, then its bytes copied, then its old slot blanked

@@ -17,8 +17,10 @@ use Rattle.counting.specs.Every.Pairwise.{end, link}
 use Rattle.racks.specs.Limits.{FREE}
 use Rattle.racks.specs.Racks.{Rack, slots, rackOf}
 use Rattle.racks.specs.Table.{rackTo, aways, owes, names}
-use Rattle.racks.specs.Legal.{Legal}
-use Rattle.phases.proofs.Allowed.{Allowed, Apart}
+use Rattle.racks.specs.parts.Legal.{Legal}
+use Rattle.plans.specs.Allowed.{Allowed, Apart}
+use Rattle.moves.specs.Turns.{InTurn}
+use Rattle.moves.specs.Turns.InTurn.{stop, next}
 use Rattle.moves.specs.Moves.{movedPlaces, movedCards, carriedPlaces, carriedCards, between, Held, carried}
 use Rattle.moves.proofs.Blocks.{length-moved-cards}
 use Rattle.moves.proofs.Moved.{legal-moved, stands-moved, allowed-free, aways-moved, owes-moved, owes-other, allowed-kept}
@@ -44,11 +46,6 @@ pub length-carried-cards : (b : ℕ) (ms : List Pair) (cards : List ℕ) → len
 unfolding carriedCards
 length-carried-cards b [] cards = refl
 length-carried-cards b (m ∷ ms) cards = length-carried-cards b ms (movedCards b m cards) ∙ length-moved-cards b m cards
-
--- each move of a list is allowed when its turn comes
-pub data InTurn (racks : List Rack) : List ℕ → List Pair → Type 0 where
-  stop : {places : List ℕ} → InTurn racks places []
-  next : {places : List ℕ} {m : Pair} {ms : List Pair} → Allowed racks places m → InTurn racks (movedPlaces m places) ms → InTurn racks places (m ∷ ms)
 
 module _ {racks : List Rack} where
   -- pairs that are allowed and share no end may be carried one after another

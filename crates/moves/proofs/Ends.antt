@@ -15,7 +15,7 @@ use Rattle.racks.specs.Racks.{Rack, slots, rackOf}
 use Rattle.racks.specs.Table.{dest, free, rackTo, onRack}
 use Rattle.racks.specs.Numbers.{noSlot, sourceFree, sourceHome, elsewhere, targetTaken}
 use Rattle.racks.proofs.Away.{away-held, away-off, away-is}
-use Rattle.phases.proofs.Allowed.{Allowed}
+use Rattle.plans.specs.Allowed.{Allowed}
 use Rattle.moves.specs.Moves.{endChecks}
 
 module _ (racks : List Rack) (places : List ℕ) (m : Pair) where

@@ -9,7 +9,7 @@ use lib.ListN.{length, take, drop, getD, take-append-drop}
 use lib.Seq.{sets, slice, slice-cons, length-slice, take-nil, take-all, take-append-seam, drop-append-seam}
 use Rattle.counting.specs.Lists.{Pair, flat}
 use Rattle.counting.specs.Every.All.{more}
-use Rattle.moves.specs.Parts.{unflat, pairsIn, Slots, AllSlots}
+use Rattle.moves.specs.parts.Carrying.{unflat, pairsIn, Slots, AllSlots}
 use Rattle.counting.proofs.Stores.{length-flat, flat-append, run-same}
 
 module _ (list : List ℕ) (i high : ℕ) (fits : high ≤ length list) where

@@ -10,14 +10,14 @@ use Rattle.counting.specs.Lists.{Pair}
 use Rattle.racks.specs.Limits.{FREE}
 use Rattle.racks.specs.Racks.{Rack, slots}
 use Rattle.racks.specs.Table.{dest, free}
-use Rattle.racks.specs.Legal.{Legal}
+use Rattle.racks.specs.parts.Legal.{Legal}
 use Rattle.moves.specs.Blocks.{block}
 use Rattle.moves.specs.Moves.{movedPlaces, movedCards, carriedPlaces, carriedCards}
 use Rattle.moves.proofs.Pairs.{ToFree, free-ends}
 use Rattle.moves.proofs.Moved.{moved-places, legal-moved, allowed-free}
 use Rattle.moves.proofs.Blocks.{moved-cards, length-moved-cards}
-use Rattle.moves.proofs.Carry.{InTurn}
-use Rattle.moves.proofs.Carry.InTurn.{stop, next}
+use Rattle.moves.specs.Turns.{InTurn}
+use Rattle.moves.specs.Turns.InTurn.{stop, next}
 
 -- the card that is bound for slot d lies in a slot, with these bytes
 pub record Card (racks : List Rack) (b : ℕ) (places cards : List ℕ) (d : ℕ) (bytes : List ℕ) : Type 0 where

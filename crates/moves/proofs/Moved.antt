@@ -18,9 +18,9 @@ use Rattle.counting.proofs.Count.{count-cong, count-change, count-move}
 use Rattle.racks.specs.Limits.{FREE}
 use Rattle.racks.specs.Racks.{Rack, slots, rackOf}
 use Rattle.racks.specs.Table.{dest, free, rackTo, onRack, away, aways, awayTo, bound, owes, names}
-use Rattle.racks.specs.Legal.{Legal}
+use Rattle.racks.specs.parts.Legal.{Legal}
 use Rattle.racks.proofs.Away.{away-held, away-off}
-use Rattle.phases.proofs.Allowed.{Allowed, Apart}
+use Rattle.plans.specs.Allowed.{Allowed, Apart}
 use Rattle.moves.specs.Moves.{movedPlaces}
 use Rattle.moves.proofs.Pairs.{Moved, Ends, ToFree, free-ends, free-disjoint}
 

@@ -11,7 +11,7 @@ use Rattle.counting.proofs.Every.{all-map, all-both}
 use Rattle.counting.specs.Every.All.{more, none}
 use Rattle.counting.specs.Every.Pairwise.{end, link}
 use Rattle.racks.specs.Racks.{Rack, slots}
-use Rattle.phases.proofs.Allowed.{Allowed, Apart}
+use Rattle.plans.specs.Allowed.{Allowed, Apart}
 use Rattle.moves.specs.Moves.{movedPlaces, movedCards, carriedPlaces, carriedCards, Held, carried, Disjoint}
 use Rattle.moves.proofs.Pairs.{Moved, Ends, disjoint-sym, free-ends, free-disjoint}
 use Rattle.moves.proofs.Moved.{allowed-free, length-moved, moved-places}

@@ -14,10 +14,10 @@ use Rattle.racks.specs.Racks.{Rack, ofCaps}
 use Rattle.racks.specs.Numbers.{cardChecks}
 use Rattle.racks.specs.Job.{racksOf, jobOf}
 use Rattle.racks.specs.declared.Job.{Job}
-use Rattle.tables.specs.Tables.{OpenCards, cardsNumber}
+use Rattle.tables.specs.parts.Tables.{OpenCards, cardsNumber}
 use Rattle.tables.proofs.Tables.{cards-racks, same-racks, of-cards, of-card-checks}
-use Rattle.moves.specs.Moves.{Held, carried, outcome, endChecks, moveChecks, moved}
-use Rattle.moves.specs.Parts.{outcomeOf, moveNumber, movedBy, MoveChecked}
+use Rattle.moves.specs.Moves.{Held, carried, outcome, endChecks, moveChecks, moved, outcomeOf}
+use Rattle.moves.specs.parts.Carrying.{moveNumber, movedBy, MoveChecked}
 use Rattle.moves.proofs.Ends.{ends-allowed}
 
 -- a call that is lent the cards gives number m

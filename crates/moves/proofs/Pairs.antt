@@ -8,7 +8,7 @@ use Rattle.counting.specs.Lists.{Pair}
 use Rattle.counting.proofs.Tests.{no-way}
 use Rattle.racks.specs.Racks.{Rack, slots}
 use Rattle.racks.specs.Table.{free}
-use Rattle.phases.proofs.Allowed.{Apart}
+use Rattle.plans.specs.Allowed.{Apart}
 use Rattle.moves.specs.Moves.{Disjoint}
 
 -- what slots hold before and after a move: the target has what the source had, the source has z, any other slot what it had

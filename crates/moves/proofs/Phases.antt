@@ -16,13 +16,14 @@ use Rattle.counting.specs.Every.All.{more, none}
 use Rattle.racks.specs.Racks.{Rack, slots}
 use Rattle.racks.specs.Table.{away, aways}
 use Rattle.racks.specs.Numbers.{someAway}
-use Rattle.racks.specs.Legal.{Legal}
-use Rattle.phases.specs.Plan.{plan}
-use Rattle.phases.proofs.Allowed.{Allowed, Apart}
+use Rattle.racks.specs.parts.Legal.{Legal}
+use Rattle.plans.specs.Plan.{plan}
+use Rattle.plans.specs.Allowed.{Allowed, Apart}
 use Rattle.moves.specs.Moves.{carriedPlaces}
 use Rattle.moves.specs.Phases.{phasesFrom, phases, budget}
-use Rattle.moves.proofs.Carry.{InTurn, pairs-in-turn, in-turn-take, in-turn-append, legal-carried, aways-carried, places-append}
-use Rattle.moves.proofs.Carry.InTurn.{stop}
+use Rattle.moves.specs.Turns.{InTurn}
+use Rattle.moves.proofs.Carry.{pairs-in-turn, in-turn-take, in-turn-append, legal-carried, aways-carried, places-append}
+use Rattle.moves.specs.Turns.InTurn.{stop}
 
 module _ (racks : List Rack) (places : List ℕ) where
   -- a card is away: it is in some slot

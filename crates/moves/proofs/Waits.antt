@@ -8,7 +8,7 @@ use native.Mathlib.Omega.{arith}
 use native.Mathlib.Decide.{ℕ-discrete}
 use lib.ListN.{length, take, drop}
 use Rattle.counting.specs.Count.{select}
-use Rattle.counting.specs.Lists.{Pair, table, join, pairUp, among}
+use Rattle.counting.specs.Lists.{Pair, tabulate, join, pairUp, among}
 use Rattle.counting.specs.Tests.{_or_}
 use Rattle.counting.proofs.Tests.{by-test, or-none, or-false}
 use Rattle.counting.specs.Every.{All}
@@ -19,15 +19,15 @@ use Rattle.counting.proofs.Lists.{join-more}
 use Rattle.counting.proofs.Members.{among-none, among-append, besides, besides-out, besides-off, besides-cong, besides-more, select-drop}
 use Rattle.racks.specs.Racks.{Rack, slots}
 use Rattle.racks.specs.Table.{awayTo, rackTo}
-use Rattle.racks.specs.Legal.{Legal}
+use Rattle.racks.specs.parts.Legal.{Legal}
 use Rattle.racks.proofs.Away.{to-rack}
-use Rattle.phases.specs.Plan.{plan, planFor, openSlots}
-use Rattle.phases.proofs.Grants.{plan-for-is}
-use Rattle.phases.proofs.Plans.{plan-for-serves}
+use Rattle.plans.specs.Plan.{plan, planFor, openSlots}
+use Rattle.plans.proofs.Grants.{plan-for-is}
+use Rattle.plans.proofs.Plans.{plan-for-serves}
 use Rattle.moves.specs.Moves.{carriedPlaces, movedPlaces}
 use Rattle.moves.proofs.Moved.{to-moved, legal-moved, allowed-free}
-use Rattle.moves.proofs.Carry.{InTurn}
-use Rattle.moves.proofs.Carry.InTurn.{stop, next}
+use Rattle.moves.specs.Turns.{InTurn}
+use Rattle.moves.specs.Turns.InTurn.{stop, next}
 
 -- the sources of pairs
 unfoldable pub froms : List Pair → List ℕ
@@ -69,15 +69,15 @@ module _ (racks : List Rack) (places : List ℕ) (p g : ℕ) (h : awayTo racks p
       among-none
       (all-froms (all-map (λ m s e. n (sym (to-rack racks places q (m .0) (s .0 .1)) ∙ ap (rackTo racks places) (sym e) ∙ to-rack racks places p g h)) (plan-for-serves racks places q)))
 
-  from-more : (n : ℕ) → among g (froms (join (table (suc n) (planFor racks places)))) ≡ (among g (froms (join (table n (planFor racks places)))) or among g (froms (planFor racks places n)))
-  from-more n = rw (join-more n (planFor racks places), froms-append (join (table n (planFor racks places))) (planFor racks places n)) (among-append g _ _)
+  from-more : (n : ℕ) → among g (froms (join (tabulate (suc n) (planFor racks places)))) ≡ (among g (froms (join (tabulate n (planFor racks places)))) or among g (froms (planFor racks places n)))
+  from-more n = rw (join-more n (planFor racks places), froms-append (join (tabulate n (planFor racks places))) (planFor racks places n)) (among-append g _ _)
 
-  from-none : (n : ℕ) → n ≤ p → among g (froms (join (table n (planFor racks places)))) ≡ false
-  from-none zero l = unfold table join froms in among-none none
+  from-none : (n : ℕ) → n ≤ p → among g (froms (join (tabulate n (planFor racks places)))) ≡ false
+  from-none zero l = unfold tabulate join froms in among-none none
   from-none (suc n) l = from-more n ∙ or-none (from-none n (omega arith)) (not-from n (λ e. omega arith))
 
   -- so it is a source of the plan where it is one of p's pairs
-  from-plans : (n : ℕ) → p < n → among g (froms (join (table n (planFor racks places)))) ≡ among g (froms (planFor racks places p))
+  from-plans : (n : ℕ) → p < n → among g (froms (join (tabulate n (planFor racks places)))) ≡ among g (froms (planFor racks places p))
   unfolding _or_
   from-plans zero l = absurd (omega arith)
   from-plans (suc n) l = elim (ℕ-discrete n p) [

@@ -1,3 +1,3 @@
-pub mod Owed
-pub mod PairCount
-pub mod Planned
+pub mod Grants
+pub mod Plans
+pub mod Possible

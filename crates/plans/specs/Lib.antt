@@ -1,2 +1,2 @@
-pub mod Owed
-pub mod Planned
+pub mod Plan
+pub mod Allowed

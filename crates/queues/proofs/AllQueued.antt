@@ -15,15 +15,15 @@ use Rattle.racks.specs.Job.{racksOf}
 use Rattle.racks.specs.declared.Job.{Job}
 use Rattle.racks.proofs.Geometry.{base-mono, end-le}
 use Rattle.racks.proofs.Jobs.{sound-few}
-use Rattle.tables.specs.Tables.{Open}
-use Rattle.bits.specs.Bits.{bitOn, turnedOn}
+use Rattle.tables.specs.parts.Tables.{Open}
+use Rattle.bits.specs.parts.Bits.{bitOn, turnedOn}
 use Rattle.bits.proofs.Words.{bit-none, turned-on-here, turned-on-other}
 use Rattle.bits.proofs.Sets.{beside-kept, topped-beside}
-use Rattle.queues.specs.Line.{headOf, tailOf}
-use Rattle.queues.specs.Queues.{rowsOf, Visitable}
-use Rattle.queues.specs.Queued.{begins, Placed, Awaiting}
-use Rattle.queues.specs.Openings.{Opened, Shown}
-use Rattle.queues.specs.Ready.{Ready}
+use Rattle.queues.specs.parts.Line.{headOf, tailOf}
+use Rattle.queues.specs.parts.Queues.{rowsOf, Visitable}
+use Rattle.queues.specs.parts.Queued.{begins, Placed, Awaiting}
+use Rattle.queues.specs.parts.Openings.{Opened, Shown}
+use Rattle.queues.specs.parts.Ready.{Ready}
 use Rattle.queues.proofs.Line.{queue-long}
 use Rattle.queues.proofs.OpenSlots.{opens-roomy}
 use Rattle.queues.proofs.Fits.{tail-up, tail-room}

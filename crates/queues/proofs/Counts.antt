@@ -12,7 +12,7 @@ use Rattle.counting.specs.Tests.{bit, pick}
 use Rattle.counting.specs.Count.{count}
 use Rattle.counting.proofs.Tests.{by-test, no-way}
 use Rattle.counting.proofs.Count.{count-on, count-off}
-use Rattle.queues.specs.Queued.{oneMore}
+use Rattle.queues.specs.parts.Queued.{oneMore}
 
 -- to add 0 or 1 by a test is to add one where it passes
 pub more-by : (test : Bool) (k : ℕ) (l : List ℕ) → set l k (getD l k 0 + bit test) ≡ pick test (oneMore l k) l

@@ -10,10 +10,10 @@ use Rattle.counting.proofs.Count.{pigeonhole, count-all, count-none, count-on, 
 use Rattle.racks.specs.Racks.{Rack, users, base, slots, rackOf, spareOf}
 use Rattle.racks.specs.Table.{dest, free, rackTo, awayTo}
 use Rattle.racks.proofs.Geometry.{base-mono, rack-in, spare-is, spare-end, user-is}
-use Rattle.racks.specs.Legal.{Legal}
+use Rattle.racks.specs.parts.Legal.{Legal}
 use Rattle.racks.proofs.LegalTable.{legal-dest}
 use Rattle.racks.proofs.Away.{away-held, to-away, to-rack}
-use Rattle.queues.specs.Queued.{begins}
+use Rattle.queues.specs.parts.Queued.{begins}
 
 -- a queue behind another begins behind its end
 pub begins-mono : (racks : List Rack) (p q : ℕ) → p < q → begins racks (suc p) ≤ begins racks q

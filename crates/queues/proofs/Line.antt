@@ -7,9 +7,9 @@ use native.Mathlib.Omega.{arith}
 use lib.ListN.{length, getD, set, replicate, length-set, length-replicate}
 use lib.Seq.{length-take-le, take-set-le, take-set-lt, getD-take, getD-set-same, getD-set-other, ext-getD}
 use Rattle.counting.proofs.Lists.{zeros}
-use Rattle.queues.specs.Line.{Blank, queueOf, headOf, tailOf, roomOf, lowOf}
-use Rattle.queues.specs.Queues.{visited}
-use Rattle.queues.specs.Queued.{placed}
+use Rattle.queues.specs.parts.Line.{Blank, queueOf, headOf, tailOf, roomOf, lowOf}
+use Rattle.queues.specs.parts.Queues.{visited}
+use Rattle.queues.specs.parts.Queued.{placed}
 
 -- a list of zeros
 pub blank-is : {n : ℕ} {list : List ℕ} → Blank n list → list ≡ replicate n 0

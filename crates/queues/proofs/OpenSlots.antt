@@ -14,9 +14,9 @@ use Rattle.racks.specs.Racks.{Rack, base, slots}
 use Rattle.racks.specs.Table.{free, freeOn}
 use Rattle.racks.proofs.Geometry.{base-mono, end-le, rack-is, rack-in}
 use Rattle.racks.proofs.Away.{on-rack}
-use Rattle.phases.specs.Plan.{openSlots, room}
-use Rattle.queues.specs.Queues.{openFrom, opens}
-use Rattle.queues.specs.Openings.{Shown}
+use Rattle.plans.specs.Plan.{openSlots, room}
+use Rattle.queues.specs.parts.Queues.{openFrom, opens}
+use Rattle.queues.specs.parts.Openings.{Shown}
 use Rattle.queues.proofs.Opens.{open-below, open-above, open-split}
 
 module _ (racks : List Rack) (places : List ℕ) (p : ℕ) (l : p < length racks) where

@@ -11,12 +11,12 @@ use lib.Pow.{pow-pos, pow-mono}
 use Rattle.counting.specs.Tests.{bit}
 use Rattle.counting.proofs.Tests.{bit-le}
 use Rattle.racks.specs.Table.{free}
-use Rattle.bits.specs.Bits.{bitOn, isOn, filled, Topped}
+use Rattle.bits.specs.parts.Bits.{bitOn, isOn, filled, Topped}
 use Rattle.bits.proofs.Words.{bit-none, doubled-low, doubled-up}
 use Rattle.bits.proofs.Sets.{topped-none}
 use Rattle.bits.proofs.Fills.{filled-here, filled-other, filled-else, topped-filled}
-use Rattle.queues.specs.Line.{Blank}
-use Rattle.queues.specs.Openings.{Word, Opened}
+use Rattle.queues.specs.parts.Line.{Blank}
+use Rattle.queues.specs.parts.Openings.{Word, Opened}
 use Rattle.queues.proofs.Line.{blank-is}
 
 module _ (places : List ℕ) (high : ℕ) where

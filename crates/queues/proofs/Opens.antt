@@ -14,8 +14,8 @@ use Rattle.counting.specs.Count.{select}
 use Rattle.counting.proofs.Tests.{and-l, and-r, and-off-l}
 use Rattle.counting.proofs.Count.{count-some, count-le}
 use Rattle.counting.proofs.Select.{select-none, select-split, length-select}
-use Rattle.bits.specs.Bits.{isOn, Next}
-use Rattle.queues.specs.Queues.{openFrom, opens}
+use Rattle.bits.specs.parts.Bits.{isOn, Next}
+use Rattle.queues.specs.parts.Queues.{openFrom, opens}
 
 module _ (bits : List ℕ) (low g : ℕ) where
   -- no slot below the first counts

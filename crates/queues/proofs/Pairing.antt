@@ -12,10 +12,10 @@ use Rattle.counting.specs.Lists.{pairUp, flat}
 use Rattle.counting.proofs.Tests.{no-way}
 use Rattle.counting.proofs.Pairs.{length-pairUp}
 use Rattle.counting.proofs.Stores.{sets-flat-none, sets-flat-more}
-use Rattle.bits.specs.Bits.{bitOn, turnedOff, isOn, Next, Walking, Onward, Walked}
+use Rattle.bits.specs.parts.Bits.{bitOn, turnedOff, isOn, Next, Walking, Onward, Walked}
 use Rattle.bits.proofs.Walks.{onward, walk-next, walk-more, some-bit}
-use Rattle.queues.specs.Line.{queueOf, headOf, tailOf, roomOf, lowOf}
-use Rattle.queues.specs.Queues.{Rows, rowsOf, opens, part, served, sent, pairsFor, Visitable, visited, Visited}
+use Rattle.queues.specs.parts.Line.{queueOf, headOf, tailOf, roomOf, lowOf}
+use Rattle.queues.specs.parts.Queues.{Rows, rowsOf, opens, part, served, sent, pairsFor, Visitable, visited, Visited}
 use Rattle.queues.proofs.Opens.{open-some, open-first}
 
 module _ (bits queue : List ℕ) (head end low : ℕ) where

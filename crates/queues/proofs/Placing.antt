@@ -17,9 +17,9 @@ use Rattle.racks.specs.Job.{racksOf, Sound}
 use Rattle.racks.specs.declared.Job.{Job}
 use Rattle.racks.proofs.Geometry.{base-mono, end-le}
 use Rattle.racks.proofs.Jobs.{sound-racks, sound-ends, sound-count}
-use Rattle.phases.specs.Plan.{room}
-use Rattle.queues.specs.Line.{Blank}
-use Rattle.queues.specs.Queued.{freeFrom, begins, placed, Placed}
+use Rattle.plans.specs.Plan.{room}
+use Rattle.queues.specs.parts.Line.{Blank}
+use Rattle.queues.specs.parts.Queued.{freeFrom, begins, placed, Placed}
 use Rattle.queues.proofs.OpenSlots.{rooms-short, on-off, on-here}
 use Rattle.queues.proofs.Line.{placed-long, placed-else, placed-head, placed-tail, placed-room, placed-low}
 

@@ -11,23 +11,23 @@ use lib.ListN.{length, getD, set, length-append}
 use lib.Seq.{sets, length-sets, getD-set-same}
 use borrow.Author.Tests.{ltb-false}
 use Rattle.counting.specs.Tests.{pick}
-use Rattle.counting.specs.Lists.{table, join, flat}
+use Rattle.counting.specs.Lists.{tabulate, join, flat}
 use Rattle.counting.proofs.Tests.{by-test, no-way}
 use Rattle.counting.proofs.Select.{sum-mono, sum-more}
 use Rattle.counting.proofs.Lists.{join-more, length-join}
 use Rattle.counting.proofs.Stores.{length-flat, flat-append, sets-append, sets-flat-none}
-use Rattle.bits.specs.Bits.{bitOn, turnedOff, Next}
+use Rattle.bits.specs.parts.Bits.{bitOn, turnedOff, Next}
 use Rattle.bits.proofs.Words.{turned-off-here, turned-off-other}
 use Rattle.bits.proofs.Sets.{beside-kept, topped-beside}
-use Rattle.queues.specs.Line.{headOf, tailOf}
-use Rattle.queues.specs.Queues.{Rows, rowsOf, sent, pairsFor, queuedPlan, Visitable, visited, Visited, Passed, Plannable, PhasePlanned}
+use Rattle.queues.specs.parts.Line.{headOf, tailOf}
+use Rattle.queues.specs.parts.Queues.{Rows, rowsOf, sent, pairsFor, queuedPlan, Visitable, visited, Visited, Passed, Plannable, PhasePlanned}
 use Rattle.queues.proofs.Line.{visited-long, visited-queue, visited-head, visited-room, visited-heads, visited-tails, visited-rooms, visited-lows}
 use Rattle.queues.proofs.Pairing.{pairs-long, pairs-none}
 
 module _ (rows : Rows) where
   -- the plan of no racks
   pub queued-none : queuedPlan 0 rows ≡ []
-  unfolding queuedPlan table join
+  unfolding queuedPlan tabulate join
   queued-none = refl
 
   -- the plan of one rack more

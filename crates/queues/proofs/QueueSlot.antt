@@ -10,10 +10,10 @@ use lib.ListN.{length, getD, set, length-set}
 use lib.Seq.{getD-set-same, getD-set-other}
 use Rattle.counting.specs.Tests.{bit}
 use Rattle.racks.specs.Table.{dest}
-use Rattle.tables.specs.Tables.{namedSlot, target, awayBy}
+use Rattle.tables.specs.parts.Tables.{namedSlot, target, awayBy}
 use Rattle.tables.proofs.Targets.{at-target, at-away}
-use Rattle.queues.specs.Line.{queueOf, tailOf}
-use Rattle.queues.specs.Queued.{queued, Queueable}
+use Rattle.queues.specs.parts.Line.{queueOf, tailOf}
+use Rattle.queues.specs.parts.Queued.{queued, Queueable}
 use Rattle.queues.proofs.Counts.{more-by}
 use Rattle.queues.proofs.Line.{queue-kept, queue-stored}
 

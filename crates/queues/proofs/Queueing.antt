@@ -13,13 +13,13 @@ use Rattle.counting.proofs.Select.{select-on, select-off}
 use Rattle.racks.specs.Racks.{Rack, slots}
 use Rattle.racks.specs.Table.{away, awayTo}
 use Rattle.racks.proofs.Geometry.{end-le}
-use Rattle.racks.specs.Legal.{Legal}
+use Rattle.racks.specs.parts.Legal.{Legal}
 use Rattle.racks.proofs.Away.{away-held, to-away, to-rack, to-is}
-use Rattle.tables.specs.Tables.{target, Filled}
+use Rattle.tables.specs.parts.Tables.{target, Filled}
 use Rattle.tables.proofs.Targets.{here-lt, target-is, target-lt, named-lt, away-by}
-use Rattle.queues.specs.Line.{queueOf, headOf, tailOf, roomOf, lowOf}
-use Rattle.queues.specs.Queues.{part}
-use Rattle.queues.specs.Queued.{begins, Placed, queued, Queueable}
+use Rattle.queues.specs.parts.Line.{queueOf, headOf, tailOf, roomOf, lowOf}
+use Rattle.queues.specs.parts.Queues.{part}
+use Rattle.queues.specs.parts.Queued.{begins, Placed, queued, Queueable}
 use Rattle.queues.proofs.Stretch.{part-none, part-push, part-before, part-behind}
 use Rattle.queues.proofs.Fits.{begins-mono, tailAt, tail-none, tail-up, tail-on, tail-off, tail-room}
 use Rattle.queues.proofs.Line.{queue-long}

@@ -7,14 +7,14 @@ use native.Mathlib.Nat.{add-zero}
 use native.Mathlib.Decide.{decLe}
 use lib.ListN.{length, take, length-take}
 use lib.Seq.{take-all, length-slice}
-use Rattle.counting.specs.Lists.{table, join, pairUp}
-use Rattle.counting.proofs.Lists.{length-table, getD-table, table-is}
+use Rattle.counting.specs.Lists.{tabulate, join, pairUp}
+use Rattle.counting.proofs.Lists.{length-tabulate, getD-tabulate, tabulate-is}
 use Rattle.counting.proofs.Pairs.{pairUp-front, pairUp-take}
 use Rattle.racks.specs.Racks.{Rack}
-use Rattle.phases.specs.Plan.{planFor, plan, openSlots}
-use Rattle.phases.proofs.Grants.{plan-for-is}
-use Rattle.queues.specs.Queues.{Rows, rowsOf, PhasePlanned, Written, part, served, sent, pairsFor, queuedPlan}
-use Rattle.queues.specs.Ready.{Ready}
+use Rattle.plans.specs.Plan.{planFor, plan, openSlots}
+use Rattle.plans.proofs.Grants.{plan-for-is}
+use Rattle.queues.specs.parts.Queues.{Rows, rowsOf, PhasePlanned, Written, part, served, sent, pairsFor, queuedPlan}
+use Rattle.queues.specs.parts.Ready.{Ready}
 use Rattle.queues.proofs.Stretch.{part-take}
 use Rattle.queues.proofs.Pairing.{pairs-none, sent-le}
 use Rattle.queues.proofs.Planning.{queued-more}
@@ -62,8 +62,8 @@ module _ (racks : List Rack) (places : List ℕ) (rows : Rows) (r : Ready racks 
       ap (λ (n : ℕ). queuedPlan n rows) e ∙ ready-none (64 - length racks) (omega (arith, r .few)) ∙ all
     where
       all : queuedPlan (length racks) rows ≡ plan racks places
-      all = ap join (table-is (length racks) (planFor racks places) (table (length racks) (pairsFor rows)) [] (length-table _ (pairsFor rows))
-          (λ k l. getD-table _ (pairsFor rows) k [] l ∙ ready-for k l))
+      all = ap join (tabulate-is (length racks) (planFor racks places) (tabulate (length racks) (pairsFor rows)) [] (length-tabulate _ (pairsFor rows))
+          (λ k l. getD-tabulate _ (pairsFor rows) k [] l ∙ ready-for k l))
 
 -- a phase planned from rows that fit the table is the plan of the phase
 pub ready-written : {racks : List Rack} {places line bits log : List ℕ} {at : ℕ} {line′ bits′ log′ : List ℕ} {count : ℕ} → Ready racks places (rowsOf line bits)

@@ -8,7 +8,7 @@ use native.Mathlib.Numerals.{add-one}
 use native.Mathlib.Decide.{decLe}
 use lib.ListN.{length, take, drop, set}
 use lib.Seq.{length-take-le, drop-append-le, take-suc-set, take-set-le, take-set-lt, drop-set-lt, slice-empty, take-nil, take-take, drop-drop}
-use Rattle.queues.specs.Queues.{part}
+use Rattle.queues.specs.parts.Queues.{part}
 
 -- a queue that ends where it begins is empty
 pub part-none : (l : List ℕ) (low : ℕ) → part l low low ≡ []

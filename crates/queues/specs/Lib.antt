@@ -1,5 +1,1 @@
-pub mod Line
-pub mod Queues
-pub mod Queued
-pub mod Openings
-pub mod Ready
+pub mod parts

@@ -15,7 +15,7 @@ use Rattle.counting.proofs.Checks.Clear.{none, more}
 use Rattle.racks.specs.Limits.{FREE}
 use Rattle.racks.specs.Racks.{Rack, ofCaps, slots, rackOf, spareOf, isUser}
 use Rattle.racks.specs.Table.{dest, free, names}
-use Rattle.racks.specs.Legal.{Legal, Spared}
+use Rattle.racks.specs.parts.Legal.{Legal, Spared}
 use Rattle.racks.specs.Numbers.{badPlaces, badEntry, badEntries, repeats, badTwice, placesChecks, tableChecks}
 use Rattle.racks.specs.Job.{rackChecks}
 use Rattle.racks.proofs.Geometry.{base-suc, end-le, spare-is, rack-is, user-is, user-lt}

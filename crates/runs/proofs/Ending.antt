@@ -6,20 +6,19 @@ use native.Mathlib.Nat.{zero-add}
 use lib.ListN.{length}
 use Rattle.answers.specs.declared.Tally.{Tally}
 use Rattle.racks.specs.Racks.{Rack, ofCaps, slots}
-use Rattle.racks.specs.Legal.{Legal, Spared}
+use Rattle.racks.specs.parts.Legal.{Legal, Spared}
 use Rattle.racks.specs.Job.{jobOf}
 use Rattle.racks.specs.declared.Job.{Job}
-use Rattle.moves.specs.Moves.{Held}
-use Rattle.moves.specs.Parts.{held}
+use Rattle.moves.specs.Moves.{Held, held}
 use Rattle.moves.proofs.Outcomes.{outcome-cards}
-use Rattle.copies.specs.Chains.{Chained}
+use Rattle.copies.specs.parts.Chains.{Chained}
 use Rattle.copies.proofs.Chains.{chained}
 use Rattle.shuffle.specs.Shuffle.{settledHeld}
-use Rattle.shuffle.specs.Hands.{Shuffled}
+use Rattle.shuffle.specs.parts.Hands.{Shuffled}
 use Rattle.shuffle.proofs.Shuffles.{settled-held}
 use Rattle.runs.specs.Run.{gathered, counts, ran}
-use Rattle.runs.specs.Ran.{ranBy}
-use Rattle.runs.specs.Gathered.{phaseCounts, PhasesMade, Ran}
+use Rattle.runs.specs.parts.Ran.{ranBy}
+use Rattle.runs.specs.parts.Gathered.{phaseCounts, PhasesMade, Ran}
 use Rattle.runs.proofs.Gathering.{legal-gathered, long-gathered}
 
 module _ (racks : List Rack) (b : ℕ) (h : Held) (legal : Legal racks (h .places)) (spared : Spared racks) (small : slots racks ≤ 4096) (long : length (h .cards) ≡ slots racks * b) where

@@ -15,26 +15,26 @@ use Rattle.racks.specs.Job.{racksOf}
 use Rattle.racks.specs.declared.Job.{Job}
 use Rattle.answers.specs.declared.Tally.{Tally}
 use Rattle.answers.specs.Answers.{noCounts}
-use Rattle.phases.specs.Plan.{plan}
-use Rattle.bits.specs.Bits.{Next}
+use Rattle.plans.specs.Plan.{plan}
+use Rattle.bits.specs.parts.Bits.{Next}
 use Rattle.moves.specs.Moves.{Held}
 use Rattle.moves.proofs.FirstFit.{first-fit}
-use Rattle.runs.specs.Kept.{Awaited, owing}
-use Rattle.runs.specs.Gathered.{Round, Rounding, RoundMade, Set, PhasesMade}
+use Rattle.runs.specs.parts.Kept.{Awaited, owing}
+use Rattle.runs.specs.parts.Gathered.{Round, Rounding, RoundMade, Set, PhasesMade}
 use Rattle.runs.proofs.Rounds.{join-last, round-first, round-done, awaited-some, awaited-none, awaited-falls}
 
 -- a cell with no count, and one with a count
-pub owing-none : (table : List ℕ) (k : ℕ) → getD table k 0 ≡ 0 → owing table k ≡ false
+pub owing-none : (counts : List ℕ) (k : ℕ) → getD counts k 0 ≡ 0 → owing counts k ≡ false
 unfolding owing
-owing-none table k e = rw (eq-eqb (getD table k 0) 0 e)
+owing-none counts k e = rw (eq-eqb (getD counts k 0) 0 e)
 
-pub owing-some : (table : List ℕ) (k : ℕ) → (getD table k 0 ≡ 0 → ⊥) → owing table k ≡ true
+pub owing-some : (counts : List ℕ) (k : ℕ) → (getD counts k 0 ≡ 0 → ⊥) → owing counts k ≡ true
 unfolding owing
-owing-some table k f = not-off (ne-eqb (getD table k 0) 0 f)
+owing-some counts k f = not-off (ne-eqb (getD counts k 0) 0 f)
 
-none-owing : (table : List ℕ) (k : ℕ) → owing table k ≡ false → getD table k 0 ≡ 0
+none-owing : (counts : List ℕ) (k : ℕ) → owing counts k ≡ false → getD counts k 0 ≡ 0
 unfolding owing
-none-owing table k e = eqb-true _ _ (not-off-is e)
+none-owing counts k e = eqb-true _ _ (not-off-is e)
 
 -- a run so far: some phases are done, and nothing is awaited before the cursor
 pub record Sofar (racks : List Rack) (b : ℕ) (h₀ : Held) (t : Tally) (h : Held) (racking line bits log owes awaits : List ℕ) (cells at : ℕ) : Type 0 where

@@ -13,19 +13,20 @@ use Rattle.counting.proofs.Tests.{by-test, no-way, both, and-l, and-r}
 use Rattle.racks.specs.Racks.{Rack, slots, rackOf}
 use Rattle.racks.specs.Table.{owes}
 use Rattle.racks.proofs.Geometry.{rack-lt}
-use Rattle.racks.specs.Legal.{Legal}
-use Rattle.tables.specs.Tables.{Filled}
-use Rattle.phases.proofs.Allowed.{Allowed}
-use Rattle.plans.specs.Owed.{cell, Owed}
+use Rattle.racks.specs.parts.Legal.{Legal}
+use Rattle.tables.specs.parts.Tables.{Filled}
+use Rattle.plans.specs.Allowed.{Allowed}
+use Rattle.planner.specs.parts.Owed.{cell, Owed}
 use Rattle.moves.specs.Moves.{movedPlaces, carriedPlaces, between}
 use Rattle.moves.proofs.Moved.{legal-moved, allowed-free}
-use Rattle.moves.proofs.Carry.{InTurn, owes-step, owes-carried}
-use Rattle.moves.proofs.Carry.InTurn.{stop, next}
+use Rattle.moves.specs.Turns.{InTurn}
+use Rattle.moves.proofs.Carry.{owes-step, owes-carried}
+use Rattle.moves.specs.Turns.InTurn.{stop, next}
 use Rattle.runs.specs.Awaits.{awaits}
-use Rattle.runs.specs.Kept.{cellOf, pay, paid, Payable, Awaited}
-use Rattle.runs.specs.Kept.Payable.{none, more}
+use Rattle.runs.specs.parts.Kept.{cellOf, pay, paid, Payable, Awaited}
+use Rattle.runs.specs.parts.Kept.Payable.{none, more}
 
-module _ {racks : List Rack} (table : List ℕ) (filled : Filled racks table) (few : length racks ≤ 64) (small : slots racks ≤ 4096) where
+module _ {racks : List Rack} (racking : List ℕ) (filled : Filled racks racking) (few : length racks ≤ 64) (small : slots racks ≤ 4096) where
   -- one move
   module _ {places : List ℕ} {m : Pair} {counts : List ℕ} (l : Legal racks places) (a : Allowed racks places m) (o : Owed racks places counts) where
     from-lt : rackOf racks (m .0) < length racks
@@ -35,15 +36,15 @@ module _ {racks : List Rack} (table : List ℕ) (filled : Filled racks table) (f
     to-lt = rack-lt racks (m .1) (a .to-lt)
 
     -- the racks of its ends say where it stands in the counts
-    cell-is : cellOf table m ≡ cell (rackOf racks (m .0)) (rackOf racks (m .1))
+    cell-is : cellOf racking m ≡ cell (rackOf racks (m .0)) (rackOf racks (m .1))
     unfolding cellOf
     cell-is = rw (filled (m .0) (a .from-lt), filled (m .1) (a .to-lt))
 
-    cell-owes : getD counts (cellOf table m) 0 ≡ owes racks places (rackOf racks (m .0)) (rackOf racks (m .1))
+    cell-owes : getD counts (cellOf racking m) 0 ≡ owes racks places (rackOf racks (m .0)) (rackOf racks (m .1))
     cell-owes = rw cell-is (o .counts _ _ (omega (arith, from-lt)) (omega (arith, to-lt)))
 
     -- it is owed
-    owed-first : 0 < getD counts (cellOf table m) 0
+    owed-first : 0 < getD counts (cellOf racking m) 0
     unfolding between
     owed-first =
         let i : ℕ = rackOf racks (m .0) in
@@ -52,25 +53,25 @@ module _ {racks : List Rack} (table : List ℕ) (filled : Filled racks table) (f
         omega (arith, ap bit e, cell-owes, owes-step l a i p)
 
     -- so it can be paid for, where those after it can
-    payable-first : {ms : List Pair} → Payable table ms (pay table m counts) → Payable table (m ∷ ms) counts
+    payable-first : {ms : List Pair} → Payable racking ms (pay racking m counts) → Payable racking (m ∷ ms) counts
     payable-first r =
-        let x : getD table (m .0) 0 < 64 = omega (arith, filled (m .0) (a .from-lt), from-lt) in
-        let y : getD table (m .1) 0 < 64 = omega (arith, filled (m .1) (a .to-lt), to-lt) in
+        let x : getD racking (m .0) 0 < 64 = omega (arith, filled (m .0) (a .from-lt), from-lt) in
+        let y : getD racking (m .1) 0 < 64 = omega (arith, filled (m .1) (a .to-lt), to-lt) in
         more {m = m} {counts = counts} (omega (arith, a .from-lt)) (omega (arith, a .to-lt)) x y owed-first r
 
     -- the counts with the move paid for are those of the table after it
-    owed-pay : Owed racks (movedPlaces m places) (pay table m counts)
+    owed-pay : Owed racks (movedPlaces m places) (pay racking m counts)
     unfolding pay between
     owed-pay = record {
       counts = λ i p li lp. by-test (between racks i p m)
           (λ e.
           let x : rackOf racks (m .0) ≡ i = eqb-true _ _ (and-l _ e) in
           let y : rackOf racks (m .1) ≡ p = eqb-true _ _ (and-r _ e) in
-          let k : cell i p ≡ cellOf table m = rw (← x, ← y) (sym cell-is) in
-          rw (k, getD-set-same counts (cellOf table m) (getD counts (cellOf table m) 0 - 1) 0 (omega (arith, cell-is, from-lt, to-lt, o .long)))
+          let k : cell i p ≡ cellOf racking m = rw (← x, ← y) (sym cell-is) in
+          rw (k, getD-set-same counts (cellOf racking m) (getD counts (cellOf racking m) 0 - 1) 0 (omega (arith, cell-is, from-lt, to-lt, o .long)))
           (omega (arith, ap bit e, owes-step l a i p, rw (x, y) at cell-owes)))
           (λ e.
-          getD-set-other counts (cellOf table m) (cell i p) (getD counts (cellOf table m) 0 - 1) 0
+          getD-set-other counts (cellOf racking m) (cell i p) (getD counts (cellOf racking m) 0 - 1) 0
           (λ k. no-way
           (both (eq-eqb (rackOf racks (m .0)) i (omega (arith, cell-is, from-lt, to-lt)))
           (eq-eqb (rackOf racks (m .1)) p (omega (arith, cell-is, from-lt, to-lt)))) e)
@@ -80,14 +81,14 @@ module _ {racks : List Rack} (table : List ℕ) (filled : Filled racks table) (f
 
   -- counts of what racks owe, with moves paid for, are those of the table after the moves
   pub owed-paid : {places : List ℕ} {ms : List Pair} {counts : List ℕ} → Legal racks places → InTurn racks places ms → Owed racks places counts
-      → Owed racks (carriedPlaces ms places) (paid table ms counts)
+      → Owed racks (carriedPlaces ms places) (paid racking ms counts)
   unfolding carriedPlaces paid
   owed-paid l stop o = o
   owed-paid l (next a t) o = owed-paid (legal-moved l (allowed-free a)) t (owed-pay l a o)
 
   -- and each move is owed when its turn comes
   pub owed-payable : {places : List ℕ} {ms : List Pair} {counts : List ℕ} → Legal racks places → InTurn racks places ms → Owed racks places counts
-      → Payable table ms counts
+      → Payable racking ms counts
   owed-payable l stop o = none
   owed-payable l (next a t) o = payable-first l a o (owed-payable (legal-moved l (allowed-free a)) t (owed-pay l a o))
 

@@ -26,26 +26,28 @@ use Rattle.racks.proofs.LegalTable.{legal-dest}
 use Rattle.racks.proofs.Away.{aways-few, away-held, to-is, to-away}
 use Rattle.answers.specs.declared.Tally.{Tally}
 use Rattle.answers.specs.Answers.{noCounts, plusPhase}
-use Rattle.phases.specs.Plan.{plan}
-use Rattle.phases.proofs.Plans.{plan-aways}
-use Rattle.plans.specs.Owed.{cell, Owed}
-use Rattle.queues.specs.Queues.{rowsOf}
+use Rattle.plans.specs.Plan.{plan}
+use Rattle.plans.proofs.Plans.{plan-aways}
+use Rattle.planner.specs.parts.Owed.{cell, Owed}
+use Rattle.queues.specs.parts.Queues.{rowsOf}
 use Rattle.queues.proofs.Ready.{ready-plan}
 use Rattle.moves.specs.Moves.{carriedPlaces, carriedCards, between, Held, carried}
 use Rattle.moves.specs.Phases.{phases}
-use Rattle.moves.specs.Parts.{pairsIn}
+use Rattle.moves.specs.parts.Carrying.{pairsIn}
 use Rattle.moves.proofs.Flat.{pairs-all}
-use Rattle.moves.proofs.Carry.{InTurn, in-turn-append, carried-append}
-use Rattle.moves.proofs.Carry.InTurn.{stop}
+use Rattle.moves.specs.Turns.{InTurn}
+use Rattle.moves.proofs.Carry.{in-turn-append, carried-append}
+use Rattle.moves.specs.Turns.InTurn.{stop}
 use Rattle.moves.proofs.Phases.{HasPair, some-away, aways-some, phases-none, phases-step, phases-pairs, phases-moves, Planner}
 use Rattle.moves.proofs.FirstFit.{first-fit}
-use Rattle.budgets.specs.Engine.{Runnable, PhaseRun}
+use Rattle.budgets.specs.parts.Engine.{Runnable, PhaseRun}
 use Rattle.budgets.proofs.NextPhase.{plan-in-turn}
-use Rattle.budgets.proofs.Turns.{Turn, tally-is, going-fixed, turn-first, turn-runnable, turn-more, turn-next, held-is, moves-are}
+use Rattle.budgets.specs.parts.Turns.{Turn}
+use Rattle.budgets.proofs.Turns.{tally-is, going-fixed, turn-first, turn-runnable, turn-more, turn-next, held-is, moves-are}
 use Rattle.runs.specs.Run.{hasPairs, gathered}
 use Rattle.runs.specs.Awaits.{awaits}
-use Rattle.runs.specs.Kept.{Payable, Paid, Awaited, owing}
-use Rattle.runs.specs.Gathered.{phaseCounts, Logged, Round, Set, PhasesMade}
+use Rattle.runs.specs.parts.Kept.{Payable, Paid, Awaited, owing}
+use Rattle.runs.specs.parts.Gathered.{phaseCounts, Logged, Round, Set, PhasesMade}
 use Rattle.runs.proofs.Owing.{owed-paid, owed-payable, awaited-is, awaited-owed}
 
 -- plans that all have pairs are counted whole

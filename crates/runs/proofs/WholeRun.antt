@@ -13,7 +13,7 @@ use Rattle.counting.proofs.Some.{some-hit, some-none}
 use Rattle.racks.specs.Limits.{FREE}
 use Rattle.racks.specs.Racks.{Rack, slots}
 use Rattle.racks.specs.Table.{dest, names, aways}
-use Rattle.racks.specs.Legal.{Legal, Spared}
+use Rattle.racks.specs.parts.Legal.{Legal, Spared}
 use Rattle.moves.specs.Blocks.{block, blank}
 use Rattle.moves.specs.Moves.{Held, carried}
 use Rattle.moves.specs.Phases.{phases, budget}

@@ -3,12 +3,12 @@ ghost use mathlib.Core.Path.{_≡_};
 ghost use Prim.Native.Nat.{_*_, _≤_};
 ghost use lib.ListN.{length};
 ghost use Rattle.racks.specs.Racks.{slots};
-ghost use Rattle.racks.specs.Legal.{Spared};
+ghost use Rattle.racks.specs.parts.Legal.{Spared};
 ghost use Rattle.racks.specs.Job.{racksOf, FitSpared};
-ghost use Rattle.tables.specs.Tables.{Open};
-ghost use Rattle.moves.specs.Parts.{held, outcomeOf};
-ghost use Rattle.runs.specs.Gathered.{LOG, PhasesMade, Ran};
-ghost use Rattle.runs.specs.Ran.{ranBy};
+ghost use Rattle.tables.specs.parts.Tables.{Open};
+ghost use Rattle.moves.specs.Moves.{held, outcomeOf};
+ghost use Rattle.runs.specs.parts.Gathered.{LOG, PhasesMade, Ran};
+ghost use Rattle.runs.specs.parts.Ran.{ranBy};
 use answers::Answer;
 use answers::Tally;
 use queues::parts::arrivals;
@@ -32,7 +32,7 @@ pub fn make_phases(
     let mut line = [0u16; 4416];
     let mut bits = [0u64; 66];
     let mut owes = [0u16; 4096];
-    plans::parts::owed::count_owed(job, places, racking, &mut owes);
+    planner::parts::owed::count_owed(job, places, racking, &mut owes);
     arrivals::queue_up(job, places, racking, &mut line, &mut bits);
     let mut awaits = owes;
     rounds::run_phases(

@@ -5,9 +5,8 @@ ghost use Rattle.racks.specs.Racks.{ofCaps};
 ghost use Rattle.answers.specs.Answers.{listedOf};
 ghost use Rattle.tables.specs.Check.{checked};
 ghost use Rattle.slots.specs.Slots.{asked};
-ghost use Rattle.phases.specs.Plan.{planned};
-ghost use Rattle.moves.specs.Moves.{moved};
-ghost use Rattle.moves.specs.Parts.{held, outcomeOf};
+ghost use Rattle.plans.specs.Plan.{planned};
+ghost use Rattle.moves.specs.Moves.{moved, held, outcomeOf};
 ghost use Rattle.moves.specs.Phases.{budgeted};
 ghost use Rattle.copies.specs.Copies.{copied};
 ghost use Rattle.shuffle.specs.Shuffle.{shuffled};
@@ -80,7 +79,7 @@ pub extern "C" fn seineflute_slot_question(caps: &[u16], places: &[u16], slot: u
 pub extern "C" fn seineflute_phase_plan(caps: &[u16], places: &[u16], lent: &mut [u16]) -> Answer
     ensures { λ r. ⌜ listedOf (answerOf r) (now (lent .exit)) ≡ planned (ofCaps (now (caps .entry))) (now (places .entry)) (now (lent .entry)) ⌝ }
 {
-    let answer = plans::phase_plan(caps, places, lent);
+    let answer = planner::phase_plan(caps, places, lent);
     flat::parts::numbers_of(answer)
 }
 

@@ -18,7 +18,7 @@ use Rattle.moves.specs.Blocks.{block, putBlock, blank}
 use Rattle.moves.proofs.Blocks.{length-put, length-blank, length-block, block-same, block-other}
 use Rattle.copies.specs.Copies.{next, copyList}
 use Rattle.shuffle.specs.Shuffle.{Hands, taken, laid, runCopies, brought}
-use Rattle.copies.specs.Chains.{Chained}
+use Rattle.copies.specs.parts.Chains.{Chained}
 use Rattle.copies.proofs.Chains.{next-is}
 use Rattle.copies.proofs.Runs.{put, run}
 use Rattle.copies.proofs.Home.{ProperCopy, list-proper, brings-home}

@@ -13,13 +13,13 @@ use Rattle.answers.specs.declared.Tally.{Tally}
 use Rattle.moves.specs.Blocks.{block, putBlock, blank}
 use Rattle.moves.proofs.Blocks.{length-put, within}
 use Rattle.copies.specs.Copies.{next, shift, copies, copyList}
-use Rattle.copies.specs.Chains.{Chained}
-use Rattle.copies.specs.Writes.{steps, Inside, walkCount, Unmarked, due, Walked}
+use Rattle.copies.specs.parts.Chains.{Chained}
+use Rattle.copies.specs.parts.Writes.{steps, Inside, walkCount, Unmarked, due, Walked}
 use Rattle.copies.proofs.Tallied.{plus-none, plus-both}
 use Rattle.copies.proofs.Writing.{inside-here, walked-shift, walked-hand, count-shift, count-hand}
 use Rattle.copies.proofs.Progress.{Progress, progress-start, progress-end, progress-room, progress-more, few-copies, marked-none, counted-none, counted-due, due-copies}
 use Rattle.shuffle.specs.Shuffle.{Hands, taken, laid, runCopies, brought}
-use Rattle.shuffle.specs.Hands.{handed, copyMade, slid, HandedAs, WalkBrought, SlotBrought, AllBrought}
+use Rattle.shuffle.specs.parts.Hands.{handed, copyMade, slid, HandedAs, WalkBrought, SlotBrought, AllBrought}
 use Rattle.shuffle.proofs.Bytes.{taken-hand, taken-slot, laid-hand, laid-slot}
 
 -- one copy

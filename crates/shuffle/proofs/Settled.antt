@@ -10,45 +10,45 @@ use native.Mathlib.Decide.{ℕ-discrete}
 use lib.ListN.{length, drop, length-append, length-drop}
 use lib.Seq.{drop-append-le, take-append-le, drop-at, take-all}
 use borrow.Author.Tests.{eq-eqb, ne-eqb}
-use Rattle.counting.specs.Lists.{table, join}
+use Rattle.counting.specs.Lists.{tabulate, join}
 use Rattle.counting.proofs.Tests.{by-test}
 use Rattle.counting.proofs.Some.{some-hit, some-none}
-use Rattle.counting.proofs.Lists.{join-more, getD-table}
+use Rattle.counting.proofs.Lists.{join-more, getD-tabulate}
 use Rattle.racks.specs.Limits.{FREE}
 use Rattle.racks.specs.Racks.{Rack, slots}
 use Rattle.racks.specs.Table.{dest, names}
-use Rattle.racks.specs.Legal.{Legal}
+use Rattle.racks.specs.parts.Legal.{Legal}
 use Rattle.moves.specs.Blocks.{block, blank}
 use Rattle.moves.specs.Moves.{Held}
 use Rattle.moves.proofs.Blocks.{length-block, length-blank}
 use Rattle.copies.specs.Copies.{next}
 use Rattle.shuffle.specs.Shuffle.{brought, isNamed, lastEntry, lastCard, settledHeld}
-use Rattle.copies.specs.Chains.{Chained}
+use Rattle.copies.specs.parts.Chains.{Chained}
 use Rattle.copies.proofs.Chains.{chained, next-is}
 use Rattle.shuffle.proofs.Bytes.{brought-home, length-brought}
 
 -- slots of b bytes each, one after another
 module _ (b : ℕ) (f : ℕ → List ℕ) where
   -- n slots have n times b bytes
-  pub length-slots : (n : ℕ) → ((k : ℕ) → k < n → length (f k) ≡ b) → length (join (table n f)) ≡ n * b
-  length-slots zero h = unfold table join in sym (zero-mul b)
+  pub length-slots : (n : ℕ) → ((k : ℕ) → k < n → length (f k) ≡ b) → length (join (tabulate n f)) ≡ n * b
+  length-slots zero h = unfold tabulate join in sym (zero-mul b)
   length-slots (suc n) h = rw (join-more n f, length-append, length-slots n (λ k l. h k (omega arith)), h n (omega arith)) (sym (suc-mul n b))
 
   -- the bytes of one of them
-  pub block-slots : (n d : ℕ) → ((k : ℕ) → k < n → length (f k) ≡ b) → d < n → block b d (join (table n f)) ≡ f d
+  pub block-slots : (n d : ℕ) → ((k : ℕ) → k < n → length (f k) ≡ b) → d < n → block b d (join (tabulate n f)) ≡ f d
   unfolding block
   block-slots zero d h l = absurd (omega arith)
   block-slots (suc n) d h l =
       let long = length-slots n (λ k l. h k (omega arith)) in
       rw (join-more n f)
       (elim (ℕ-discrete d n) [
-        | yes e ↦ rw (e, drop-at (join (table n f)) (f n) (n * b) long) (take-all b (f n) (omega (arith, h n (omega arith))))
+        | yes e ↦ rw (e, drop-at (join (tabulate n f)) (f n) (n * b) long) (take-all b (f n) (omega (arith, h n (omega arith))))
         | no e ↦
             let k : d < n = omega arith in
             let m = rw suc-mul at (mul-le-mul-right b k) in
-            let p : d * b ≤ length (join (table n f)) = omega arith in
-            let q : b ≤ length (drop (d * b) (join (table n f))) = simp length-drop (omega arith) in
-            rw (drop-append-le (d * b) (join (table n f)) (f n) p, take-append-le b (drop (d * b) (join (table n f))) (f n) q) (block-slots n d (λ i j. h i (omega arith)) k)
+            let p : d * b ≤ length (join (tabulate n f)) = omega arith in
+            let q : b ≤ length (drop (d * b) (join (tabulate n f))) = simp length-drop (omega arith) in
+            rw (drop-append-le (d * b) (join (tabulate n f)) (f n) p, take-append-le b (drop (d * b) (join (tabulate n f))) (f n) q) (block-slots n d (λ i j. h i (omega arith)) k)
       ])
 
 -- a slot that an entry names, and one that none does
@@ -124,7 +124,7 @@ module _ (racks : List Rack) (b : ℕ) (h : Held) (v : Legal racks (h .places)) 
 module _ (racks : List Rack) (b : ℕ) (h : Held) (d : ℕ) (l : d < slots racks) where
   last-dest : dest (settledHeld racks b h .places) d ≡ lastEntry (h .places) d
   unfolding settledHeld
-  last-dest = getD-table (slots racks) (lastEntry (h .places)) d 0 l
+  last-dest = getD-tabulate (slots racks) (lastEntry (h .places)) d 0 l
 
   -- a settled slot names itself
   pub settled-self : isNamed (h .places) d ≡ true → dest (settledHeld racks b h .places) d ≡ d

@@ -9,19 +9,19 @@ use native.Mathlib.Decide.{ℕ-discrete}
 use lib.ListN.{length, getD, length-set}
 use lib.Seq.{getD-set-same, getD-set-other}
 use borrow.Author.Tests.{eq-eqb, ne-eqb}
-use Rattle.counting.specs.Lists.{table, join}
+use Rattle.counting.specs.Lists.{tabulate, join}
 use Rattle.counting.proofs.Tests.{off}
 use Rattle.counting.proofs.Some.{some-hit, some-found}
-use Rattle.counting.proofs.Lists.{table-is}
+use Rattle.counting.proofs.Lists.{tabulate-is}
 use Rattle.racks.specs.Limits.{FREE}
 use Rattle.racks.specs.Table.{names}
 use Rattle.moves.specs.Blocks.{block, putBlock, blank}
 use Rattle.moves.proofs.Blocks.{length-put, length-blank, block-same, block-other, blocks-ext}
 use Rattle.copies.specs.Copies.{source}
-use Rattle.copies.specs.Chains.{Chained}
+use Rattle.copies.specs.parts.Chains.{Chained}
 use Rattle.copies.proofs.Chains.{seek-hit, seek-found}
 use Rattle.shuffle.specs.Shuffle.{isNamed, lastEntry, lastCard}
-use Rattle.shuffle.specs.Hands.{entryBy, SlotSettled, FreeListed, TableSettled, AllBelow, Zeroed, AllSettled}
+use Rattle.shuffle.specs.parts.Hands.{entryBy, SlotSettled, FreeListed, TableSettled, AllBelow, Zeroed, AllSettled}
 use Rattle.shuffle.proofs.Settled.{last-named, last-free, card-named, card-free, length-last, length-slots, block-slots}
 
 -- no card is bound for a slot exactly where no entry names it
@@ -124,7 +124,7 @@ module _ {places : List ℕ} (ok : Chained places) (d : ℕ) (low : d < length p
 -- all slots
 pub settled-all : (places : List ℕ) (d : ℕ) (places′ frees : List ℕ) (n : ℕ) → d ≡ length places → SettledTo places d places′ frees n → TableSettled places places′ frees n
 settled-all places d places′ frees n e t = record {
-  entries = table-is (length places) (lastEntry places) places′ 0 (t .size) (λ k l. t .entries k (omega arith));
+  entries = tabulate-is (length places) (lastEntry places) places′ 0 (t .size) (λ k l. t .entries k (omega arith));
   listed = rw e at (t .listed);
   size = t .size;
 }
@@ -156,7 +156,7 @@ pub all-settled : (b : ℕ) {places : List ℕ} (cards : List ℕ) → Chained p
     → AllSettled b places cards places′ cards′
 all-settled b {places} cards ok sized n places′ frees cards′ t z = record {
   entries = t .entries;
-  bytes = blocks-ext b (length places) cards′ (join (table (length places) (lastCard b places cards))) (z .size ∙ sized)
+  bytes = blocks-ext b (length places) cards′ (join (tabulate (length places) (lastCard b places cards))) (z .size ∙ sized)
       (length-slots b (lastCard b places cards) (length places) (length-last b places cards sized))
       (λ g l. each-slot g l ∙ sym (block-slots b (lastCard b places cards) (length places) g (length-last b places cards sized) l));
 }

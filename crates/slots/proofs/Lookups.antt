@@ -10,7 +10,7 @@ use Rattle.racks.specs.Job.{racksOf, Sound}
 use Rattle.racks.specs.declared.Job.{Job}
 use Rattle.racks.proofs.Geometry.{rack-lt, user-is}
 use Rattle.racks.proofs.Jobs.{sound-slots, sound-spares}
-use Rattle.tables.specs.Tables.{Filled}
+use Rattle.tables.specs.parts.Tables.{Filled}
 
 module _ (job : Job) (s : Sound job) where
   -- a slot's rack, looked up

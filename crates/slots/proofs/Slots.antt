@@ -14,7 +14,7 @@ use Rattle.racks.specs.Table.{dest, free, settled, rackTo, onRack, away}
 use Rattle.racks.specs.Numbers.{noSlot}
 use Rattle.racks.specs.Job.{racksOf, jobOf}
 use Rattle.racks.specs.declared.Job.{Job}
-use Rattle.tables.specs.Tables.{tableNumber}
+use Rattle.tables.specs.parts.Tables.{tableNumber}
 use Rattle.tables.proofs.Tables.{number-racks, same-racks, of-checks}
 use Rattle.slots.specs.parts.Asked.{said, askedBy}
 use Rattle.slots.specs.declared.Slot.{Slot}

@@ -4,7 +4,7 @@ ghost use Prim.Native.Nat.{_<_};
 ghost use lib.ListN.{length};
 ghost use Rattle.racks.specs.Racks.{isUser};
 ghost use Rattle.racks.specs.Job.{racksOf, Sound, Fit};
-ghost use Rattle.tables.specs.Tables.{Filled, Open};
+ghost use Rattle.tables.specs.parts.Tables.{Filled, Open};
 ghost use Rattle.slots.specs.Slots.{refusedSlot, kindOf, stateOf};
 ghost use Rattle.slots.specs.parts.Asked.{askedBy};
 use crate::Kind;

@@ -11,7 +11,7 @@ use borrow.Author.Tests.{lt-ltb, le-ltb}
 use Rattle.counting.specs.Tests.{bit}
 use Rattle.racks.specs.Racks.{Rack, base, slots, rackOf, spareOf, isUser}
 use Rattle.racks.proofs.Geometry.{rack-is, user-is, user-none, end-le, spare-is, spare-end}
-use Rattle.tables.specs.Tables.{Between, Marked}
+use Rattle.tables.specs.parts.Tables.{Between, Marked}
 
 pub between-none : (low value : ℕ) (t : List ℕ) → Between low low value t t
 between-none low value t = record { inside = λ g l h. absurd (omega arith); below = λ g h. refl; above = λ g h l. refl; long = refl }

@@ -22,8 +22,8 @@ use Rattle.racks.specs.Table.{dest, free, names}
 use Rattle.racks.specs.Numbers.{badEntry, badEntries, repeats, badTwice}
 use Rattle.racks.proofs.Geometry.{user-lt}
 use Rattle.racks.proofs.Legal.{entry-cases}
-use Rattle.tables.specs.Tables.{Marked}
-use Rattle.tables.specs.Marks.{markOf, numberOf, entryNumber, named, Entered, entriesNumber, worse}
+use Rattle.tables.specs.parts.Tables.{Marked}
+use Rattle.tables.specs.parts.Marks.{markOf, numberOf, entryNumber, named, Entered, entriesNumber, worse}
 
 -- one entry, by the tests that the code makes
 module _ (marks : List ℕ) (x : ℕ) (long : length marks ≡ 4096) where

@@ -19,9 +19,9 @@ use Rattle.racks.specs.Racks.{Rack, base, slots, spareOf, isUser}
 use Rattle.racks.specs.Table.{dest, free, names}
 use Rattle.racks.specs.Numbers.{badEntry, badEntries, repeats, badTwice}
 use Rattle.racks.proofs.Geometry.{user-lt}
-use Rattle.tables.specs.Tables.{Between}
-use Rattle.tables.specs.Marks.{entriesNumber}
-use Rattle.tables.specs.Once.{placeOf, OnceMarked, MarkTaken}
+use Rattle.tables.specs.parts.Tables.{Between}
+use Rattle.tables.specs.parts.Marks.{entriesNumber}
+use Rattle.tables.specs.parts.Once.{placeOf, OnceMarked, MarkTaken}
 use Rattle.tables.proofs.Fills.{user-here}
 use Rattle.tables.proofs.Marks.{repeats-free}
 

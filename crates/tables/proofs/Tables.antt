@@ -23,11 +23,11 @@ use Rattle.racks.specs.Job.{rackChecks, racksOf, jobOf, Sound, Fit}
 use Rattle.racks.specs.declared.Job.{Job}
 use Rattle.racks.proofs.Jobs.{sound-refused, sound-slots, of-refused, of-racks}
 use Rattle.racks.proofs.Legal.{racks-good, checks-racks, checks-places, checks-4, checks-entries}
-use Rattle.racks.specs.Legal.{Legal}
+use Rattle.racks.specs.parts.Legal.{Legal}
 use Rattle.racks.proofs.LegalTable.{places-legal}
 use Rattle.tables.specs.Check.{checked}
-use Rattle.tables.specs.Marks.{entriesNumber}
-use Rattle.tables.specs.Tables.{Filled, OpenCards, Checked, CardsChecked, tableNumber, cardsNumber, checkedBy}
+use Rattle.tables.specs.parts.Marks.{entriesNumber}
+use Rattle.tables.specs.parts.Tables.{Filled, OpenCards, Checked, CardsChecked, tableNumber, cardsNumber, checkedBy}
 
 module _ (job : Job) (places : List ℕ) where
   -- past what the racks are refused with

@@ -11,41 +11,41 @@ use Rattle.counting.specs.Tests.{_and_}
 use Rattle.counting.proofs.Tests.{by-test, and-off-l}
 use Rattle.racks.specs.Racks.{Rack, slots}
 use Rattle.racks.specs.Table.{dest, free, rackTo, onRack, away}
-use Rattle.racks.specs.Legal.{Legal}
+use Rattle.racks.specs.parts.Legal.{Legal}
 use Rattle.racks.proofs.Geometry.{rack-lt}
 use Rattle.racks.proofs.LegalTable.{legal-dest}
-use Rattle.tables.specs.Tables.{namedSlot, target, awayBy, Filled}
+use Rattle.tables.specs.parts.Tables.{namedSlot, target, awayBy, Filled}
 
 -- n is the slot that slot g's entry names, as the code looks it up
-module _ (table places : List ℕ) (g n : ℕ) (en : n ≡ namedSlot g (dest places g)) where
+module _ (racking places : List ℕ) (g n : ℕ) (en : n ≡ namedSlot g (dest places g)) where
   -- the table has the card's rack there
-  pub at-target : getD table n 0 ≡ target table places g
+  pub at-target : getD racking n 0 ≡ target racking places g
   unfolding target
-  at-target = ap (λ (k : ℕ). getD table k 0) en
+  at-target = ap (λ (k : ℕ). getD racking k 0) en
 
   -- and by it the card is away where this is another rack than the slot's
-  pub at-away : not (eqb (getD table g 0) (getD table n 0)) ≡ awayBy table places g
+  pub at-away : not (eqb (getD racking g 0) (getD racking n 0)) ≡ awayBy racking places g
   unfolding awayBy
-  at-away = ap (λ (p : ℕ). not (eqb (getD table g 0) p)) at-target
+  at-away = ap (λ (p : ℕ). not (eqb (getD racking g 0) p)) at-target
 
 -- a legal table, and each slot's rack
-module _ (racks : List Rack) (places table : List ℕ) (v : Legal racks places) (filled : Filled racks table) (g : ℕ) (l : g < slots racks) where
+module _ (racks : List Rack) (places racking : List ℕ) (v : Legal racks places) (filled : Filled racks racking) (g : ℕ) (l : g < slots racks) where
   -- the table has slot g's rack, which is one
-  pub here-lt : getD table g 0 < length racks
+  pub here-lt : getD racking g 0 < length racks
   here-lt = omega (arith, filled g l, rack-lt racks g l)
 
   -- it has the rack where the slot's card must end
-  pub target-is : free places g ≡ false → target table places g ≡ rackTo racks places g
+  pub target-is : free places g ≡ false → target racking places g ≡ rackTo racks places g
   unfolding target namedSlot free rackTo
   target-is f = rw f (filled (dest places g) (legal-dest racks places v g l f))
 
   -- of a free slot, its own
-  target-free : free places g ≡ true → target table places g ≡ getD table g 0
+  target-free : free places g ≡ true → target racking places g ≡ getD racking g 0
   unfolding target namedSlot free
   target-free f = rw f
 
   -- which is a rack
-  pub target-lt : target table places g < length racks
+  pub target-lt : target racking places g < length racks
   unfolding rackTo
   target-lt = by-test (free places g)
       (λ f. omega (arith, target-free f, here-lt))
@@ -59,8 +59,8 @@ module _ (racks : List Rack) (places table : List ℕ) (v : Legal racks places) 
       (λ f. rw f (legal-dest racks places v g l f))
 
   -- by the table the card is away exactly where it is
-  pub away-by : awayBy table places g ≡ away racks places g
+  pub away-by : awayBy racking places g ≡ away racks places g
   unfolding awayBy away onRack _and_
   away-by = by-test (free places g)
-      (λ f. ap not (eq-eqb (getD table g 0) (target table places g) (sym (target-free f))) ∙ sym (and-off-l _ (ap not f)))
+      (λ f. ap not (eq-eqb (getD racking g 0) (target racking places g) (sym (target-free f))) ∙ sym (and-off-l _ (ap not f)))
       (λ f. rw (f, filled g l, target-is f))

@@ -1,4 +1,2 @@
 pub mod Check
-pub mod Tables
-pub mod Marks
-pub mod Once
+pub mod parts

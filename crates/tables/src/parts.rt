@@ -6,9 +6,9 @@ ghost use lib.ListN.{length, replicate};
 ghost use Rattle.counting.specs.Tests.{bit, _and_};
 ghost use Rattle.racks.specs.Limits.{SLOTS, MARKS};
 ghost use Rattle.racks.specs.Job.{racksOf, Sound, Fit};
-ghost use Rattle.tables.specs.Tables.{namedSlot, Filled, Marked, Between, Checked, CardsChecked, checkedBy};
-ghost use Rattle.tables.specs.Marks.{Entered, entriesNumber, worse};
-ghost use Rattle.tables.specs.Once.{placeOf, MarkTaken, OnceMarked};
+ghost use Rattle.tables.specs.parts.Tables.{namedSlot, Filled, Marked, Between, Checked, CardsChecked, checkedBy};
+ghost use Rattle.tables.specs.parts.Marks.{Entered, entriesNumber, worse};
+ghost use Rattle.tables.specs.parts.Once.{placeOf, MarkTaken, OnceMarked};
 use answers::Answer;
 use racks::Job;
 

@@ -7,13 +7,13 @@ use native.Mathlib.Nat.{zero-mul, suc-mul}
 use native.Mathlib.Numerals.{add-one}
 use lib.ListN.{length, drop, getD, length-append}
 use lib.Seq.{drop-cons, drop-length}
-use Rattle.counting.specs.Lists.{join, each, table}
+use Rattle.counting.specs.Lists.{join, each, tabulate}
 use Rattle.counting.proofs.Lists.{join-more}
 use Rattle.moves.specs.Blocks.{block}
 use Rattle.moves.proofs.Blocks.{below, block-at, block-long}
 use Rattle.texts.specs.Text.{hex}
 use Rattle.texts.specs.Lines.{cardText}
-use Rattle.texts.specs.Writing.{Room, Wrote}
+use Rattle.texts.specs.parts.Writing.{Room, Wrote}
 use Rattle.texts.proofs.Writing.{Left, room-first, wrote-length, wrote-then, left-first, left-room, left-next, left-done}
 use Rattle.texts.proofs.Digits.{length-hex}
 
@@ -69,26 +69,26 @@ module _ (b g : ℕ) (cards : List ℕ) (fits : g * b + b ≤ length cards) wher
 
 module _ (b : ℕ) (cards : List ℕ) where
   -- the text of s slots: a space and two digits for each byte, for each slot
-  pub length-cards : (s n : ℕ) → s ≤ n → length cards ≡ n * b → length (join (table s (cardText b cards))) ≡ s * (1 + 2 * b)
-  unfolding join table
+  pub length-cards : (s n : ℕ) → s ≤ n → length cards ≡ n * b → length (join (tabulate s (cardText b cards))) ≡ s * (1 + 2 * b)
+  unfolding join tabulate
   length-cards zero n h sized = rw zero-mul
   length-cards (suc s) n h sized =
       rw (join-more s (cardText b cards), suc-mul)
       (omega (
         arith,
-        length-append (join (table s (cardText b cards))) (cardText b cards s),
+        length-append (join (tabulate s (cardText b cards))) (cardText b cards s),
         length-card b s cards (omega (arith, below b s n (omega arith))),
         length-cards s n (omega arith) sized,
       ))
 
   -- no slots, no text
-  pub cards-first : (l : List ℕ) (at : ℕ) → Wrote (join (table 0 (cardText b cards))) l at l at
-  unfolding join table
+  pub cards-first : (l : List ℕ) (at : ℕ) → Wrote (join (tabulate 0 (cardText b cards))) l at l at
+  unfolding join tabulate
   cards-first l at = record { stored = refl; behind = omega arith }
 
-  module _ {l m : List ℕ} {start at : ℕ} (g : ℕ) (w : Wrote (join (table g (cardText b cards))) l start m at) where
+  module _ {l m : List ℕ} {start at : ℕ} (g : ℕ) (w : Wrote (join (tabulate g (cardText b cards))) l start m at) where
     -- the next slot's text fits
-    pub card-room : (s : ℕ) → length cards ≡ s * b → g < s → Room (join (table s (cardText b cards))) start l → Room (cardText b cards g) at m
+    pub card-room : (s : ℕ) → length cards ≡ s * b → g < s → Room (join (tabulate s (cardText b cards))) start l → Room (cardText b cards g) at m
     card-room s sized h room =
         omega (
           arith,
@@ -101,5 +101,5 @@ module _ (b : ℕ) (cards : List ℕ) where
         )
 
     -- it is written
-    pub card-next : {n : List ℕ} {k : ℕ} → Wrote (cardText b cards g) m at n k → Wrote (join (table (g + 1) (cardText b cards))) l start n k
+    pub card-next : {n : List ℕ} {k : ℕ} → Wrote (cardText b cards g) m at n k → Wrote (join (tabulate (g + 1) (cardText b cards))) l start n k
     card-next v = rw (add-one, join-more g (cardText b cards)) (wrote-then w v)

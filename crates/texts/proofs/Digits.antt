@@ -11,7 +11,7 @@ use lib.ListN.{length, length-append}
 use Rattle.counting.specs.Tests.{pick}
 use Rattle.counting.proofs.Tests.{by-test}
 use Rattle.texts.specs.Text.{digit, digits, decimal, hex}
-use Rattle.texts.specs.Writing.{Wrote}
+use Rattle.texts.specs.parts.Writing.{Wrote}
 use Rattle.texts.proofs.Writing.{wrote-then}
 
 -- a digit below 10

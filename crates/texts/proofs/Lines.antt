@@ -4,11 +4,11 @@ use mathlib.Core.List.{List, [], _∷_, _++_}
 use Prim.Native.Nat.{ℕ, suc, _+_, _*_, _≤_, _<_}
 use native.Mathlib.Omega.{arith}
 use lib.ListN.{length, length-append}
-use Rattle.counting.specs.Lists.{Pair, join, each, table}
+use Rattle.counting.specs.Lists.{Pair, join, each, tabulate}
 use Rattle.counting.specs.Every.{All}
 use Rattle.counting.specs.Every.All.{none, more}
 use Rattle.answers.specs.declared.Tally.{Tally}
-use Rattle.moves.specs.Parts.{AllSlots}
+use Rattle.moves.specs.parts.Carrying.{AllSlots}
 use Rattle.texts.specs.Text.{decimal}
 use Rattle.texts.specs.Lines.{arrow, phaseLines, copiesLine, cardText, cardsLine, endLine, refusedLine, phaseLine}
 use Rattle.texts.proofs.Digits.{length-decimal-5}
@@ -50,7 +50,7 @@ pub copies-small : (ms : List Pair) → AllSlots 65536 ms → length (copiesLine
 copies-small ms all = omega (arith, length-copies ms, arrows-small ms all)
 
 -- the cards line: 7 bytes and the cards
-pub length-cards-line : (s b : ℕ) (cards : List ℕ) → length (cardsLine s b cards) ≡ 7 + length (join (table s (cardText b cards)))
+pub length-cards-line : (s b : ℕ) (cards : List ℕ) → length (cardsLine s b cards) ≡ 7 + length (join (tabulate s (cardText b cards)))
 unfolding cardsLine
 length-cards-line s b cards = simp length-append (omega arith)
 

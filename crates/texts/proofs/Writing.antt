@@ -6,7 +6,7 @@ use native.Mathlib.Omega.{arith}
 use lib.ListN.{length, take, getD, set, length-append}
 use lib.Seq.{sets, length-sets, take-all}
 use Rattle.counting.proofs.Stores.{sets-append, sets-take}
-use Rattle.texts.specs.Writing.{Room, Wrote}
+use Rattle.texts.specs.parts.Writing.{Room, Wrote}
 
 -- what fits, its first part fits
 pub room-first : (a b l : List ℕ) (i : ℕ) → Room (a ++ b) i l → Room a i l

@@ -3,7 +3,7 @@ use mathlib.Core.List.{List, [], _∷_, _++_}
 use Prim.Native.Nat.{ℕ, suc}
 use lib.Dec.{eqb}
 use Rattle.counting.specs.Tests.{pick}
-use Rattle.counting.specs.Lists.{Pair, table, join, each}
+use Rattle.counting.specs.Lists.{Pair, tabulate, join, each}
 use Rattle.racks.specs.Limits.{HAND}
 use Rattle.answers.specs.declared.Tally.{Tally}
 use Rattle.moves.specs.Blocks.{block}
@@ -36,7 +36,7 @@ cardText b cards g = text " " ++ join (each hex (block b g cards))
 
 -- each slot's final bytes
 unfoldable pub cardsLine : ℕ → ℕ → List ℕ → List ℕ
-cardsLine s b cards = text "cards:" ++ join (table s (cardText b cards)) ++ text "\n"
+cardsLine s b cards = text "cards:" ++ join (tabulate s (cardText b cards)) ++ text "\n"
 
 -- the three counts
 unfoldable pub endLine : Tally → List ℕ

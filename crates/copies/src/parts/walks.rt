@@ -2,9 +2,9 @@
 ghost use mathlib.Core.Path.{_≡_};
 ghost use Prim.Native.Nat.{_<_};
 ghost use lib.ListN.{length};
-ghost use Rattle.tables.specs.Tables.{namedSlot};
-ghost use Rattle.copies.specs.Chains.{Chained};
-ghost use Rattle.copies.specs.Writes.{noSources, Sources, putSource, handEnd, MarkedOn, MarkedBack, Walked};
+ghost use Rattle.tables.specs.parts.Tables.{namedSlot};
+ghost use Rattle.copies.specs.parts.Chains.{Chained};
+ghost use Rattle.copies.specs.parts.Writes.{noSources, Sources, putSource, handEnd, MarkedOn, MarkedBack, Walked};
 use crate::parts;
 use racks::Job;
 

@@ -3,7 +3,7 @@ use native.Mathlib.Omega.{arith}
 use borrow.Author.Needs.{needs}
 use Rattle.listing.specs.Listing.{handedOver, printed}
 use Rattle.texts.proofs.Writing.{wrote-length}
-use Rattle.listed.proofs.Writing.{wrote-front}
+use Rattle.runtexts.proofs.Writing.{wrote-front}
 use Rattle.listing.proofs.Files.{listing-enough}
 use Rattle.listing.proofs.list_job.Statement.{statement}
 use Rattle.listing.proofs.list_job.Tie as tie

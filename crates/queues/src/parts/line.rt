@@ -1,6 +1,6 @@
 // The line: what a call keeps of each rack, in one list, each kind of number from a place of its own on.
 ghost use mathlib.Core.Path.{_≡_};
-ghost use Rattle.queues.specs.Line.{QUEUES, HEADS, TAILS, ROOMS, LOWS, LINE};
+ghost use Rattle.queues.specs.parts.Line.{QUEUES, HEADS, TAILS, ROOMS, LOWS, LINE};
 
 // The queues come first: that of rack p begins at its first slot and p, so that each has one place more than its rack has slots.
 pub const QUEUES: usize = 0;

@@ -1,8 +1,8 @@
 // The free slots of a table as a set of bits, found word by word.
 ghost use Prim.Native.Nat.{_+_, _≤_};
 ghost use lib.ListN.{length};
-ghost use Rattle.queues.specs.Line.{Blank};
-ghost use Rattle.queues.specs.Openings.{Word, Opened};
+ghost use Rattle.queues.specs.parts.Line.{Blank};
+ghost use Rattle.queues.specs.parts.Openings.{Word, Opened};
 use crate::parts::planning;
 use racks::Job;
 

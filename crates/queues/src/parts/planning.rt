@@ -5,9 +5,9 @@ ghost use lib.ListN.{length};
 ghost use lib.Seq.{sets};
 ghost use Rattle.counting.specs.Tests.{pick};
 ghost use Rattle.counting.specs.Lists.{flat};
-ghost use Rattle.bits.specs.Bits.{turnedOff, Topped};
-ghost use Rattle.queues.specs.Line.{queueOf};
-ghost use Rattle.queues.specs.Queues.{rowsOf, served, sent, Visitable, Visited, Plannable, PhasePlanned, opens};
+ghost use Rattle.bits.specs.parts.Bits.{turnedOff, Topped};
+ghost use Rattle.queues.specs.parts.Line.{queueOf};
+ghost use Rattle.queues.specs.parts.Queues.{rowsOf, served, sent, Visitable, Visited, Plannable, PhasePlanned, opens};
 use crate::parts::line;
 
 // The smaller of two numbers.

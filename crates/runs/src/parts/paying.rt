@@ -2,9 +2,9 @@
 ghost use mathlib.Core.Path.{_≡_};
 ghost use Prim.Native.Nat.{_-_, _≤_, _<_};
 ghost use lib.ListN.{length, getD, set};
-ghost use Rattle.plans.specs.Owed.{cell};
-ghost use Rattle.moves.specs.Parts.{pairsIn};
-ghost use Rattle.runs.specs.Kept.{Payable, Paid};
+ghost use Rattle.planner.specs.parts.Owed.{cell};
+ghost use Rattle.moves.specs.parts.Carrying.{pairsIn};
+ghost use Rattle.runs.specs.parts.Kept.{Payable, Paid};
 
 // Where the racks of a move stand in a table of 64 by 64 counts.
 fn cell_of(racking: &[u8; 4096], from: u16, to: u16) -> usize

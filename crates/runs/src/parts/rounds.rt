@@ -2,10 +2,10 @@
 ghost use mathlib.Core.Path.{_≡_};
 ghost use Prim.Native.Nat.{_≤_};
 ghost use Rattle.racks.specs.Job.{racksOf};
-ghost use Rattle.bits.specs.Bits.{Next};
-ghost use Rattle.moves.specs.Parts.{held};
-ghost use Rattle.runs.specs.Kept.{owing};
-ghost use Rattle.runs.specs.Gathered.{ENDS, LOG, Rounding, RoundMade, Set, PhasesMade};
+ghost use Rattle.bits.specs.parts.Bits.{Next};
+ghost use Rattle.moves.specs.Moves.{held};
+ghost use Rattle.runs.specs.parts.Kept.{owing};
+ghost use Rattle.runs.specs.parts.Gathered.{ENDS, LOG, Rounding, RoundMade, Set, PhasesMade};
 use crate::parts::paying;
 use answers::Tally;
 use racks::Job;

@@ -1,7 +1,7 @@
 -- `seineflute::seineflute_budgeted_moves` meets its contract. Assumes nothing.
 use mathlib.Core.Path.{ap, _∙_}
 use Rattle.answers.specs.declared.Answer.{Answer}
-use Rattle.moves.specs.Parts.{outcomeOf}
+use Rattle.moves.specs.Moves.{outcomeOf}
 use borrow.Author.Needs.{needs}
 use Rattle.seineflute.proofs.seineflute_budgeted_moves.Statement.{statement}
 use Rattle.seineflute.proofs.seineflute_budgeted_moves.Tie as tie

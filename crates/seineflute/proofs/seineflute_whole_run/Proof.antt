@@ -1,7 +1,7 @@
 -- `seineflute::seineflute_whole_run` meets its contract. Assumes nothing.
 use mathlib.Core.Path.{ap, _∙_}
 use Rattle.answers.specs.declared.Answer.{Answer}
-use Rattle.moves.specs.Parts.{outcomeOf}
+use Rattle.moves.specs.Moves.{outcomeOf}
 use borrow.Author.Needs.{needs}
 use Rattle.seineflute.proofs.seineflute_whole_run.Statement.{statement}
 use Rattle.seineflute.proofs.seineflute_whole_run.Tie as tie

@@ -6,9 +6,9 @@ ghost use lib.ListN.{length, take};
 ghost use Rattle.racks.specs.Limits.{FREE};
 ghost use Rattle.moves.specs.Blocks.{block, putBlock};
 ghost use Rattle.copies.specs.Copies.{next, shift, copies};
-ghost use Rattle.copies.specs.Chains.{Chained};
-ghost use Rattle.copies.specs.Writes.{Sources, steps, Inside, walkCount, due};
-ghost use Rattle.shuffle.specs.Hands.{slid, WalkBrought, SlotBrought};
+ghost use Rattle.copies.specs.parts.Chains.{Chained};
+ghost use Rattle.copies.specs.parts.Writes.{Sources, steps, Inside, walkCount, due};
+ghost use Rattle.shuffle.specs.parts.Hands.{slid, WalkBrought, SlotBrought};
 use racks::Job;
 
 // The card in slot `from` goes to the hand.

@@ -9,7 +9,7 @@ use Rattle.racks.specs.declared.Job.{Job}
 use Rattle.answers.specs.Answers.{answer, noCounts}
 use Rattle.counting.specs.Tests.{pick}
 use Rattle.counting.specs.Checks.{done}
-use Rattle.tables.specs.Tables.{tableNumber}
+use Rattle.tables.specs.parts.Tables.{tableNumber}
 use Rattle.slots.specs.Slots.{kindOf, stateOf, nothing}
 use Rattle.slots.specs.declared.SlotAnswer.{SlotAnswer}
 

@@ -2,12 +2,12 @@
 ghost use mathlib.Core.Path.{_≡_};
 ghost use Prim.Native.Nat.{_+_, _*_, _≤_};
 ghost use lib.ListN.{length};
-ghost use Rattle.counting.specs.Lists.{join, each, table};
+ghost use Rattle.counting.specs.Lists.{join, each, tabulate};
 ghost use Rattle.moves.specs.Blocks.{block};
-ghost use Rattle.moves.specs.Parts.{pairsIn};
+ghost use Rattle.moves.specs.parts.Carrying.{pairsIn};
 ghost use Rattle.texts.specs.Text.{hex};
 ghost use Rattle.texts.specs.Lines.{copiesLine, cardText, cardsLine, endLine, refusedLine, phaseLine};
-ghost use Rattle.texts.specs.Writing.{Room, Wrote};
+ghost use Rattle.texts.specs.parts.Writing.{Room, Wrote};
 use crate::parts::arrows;
 use crate::parts::words;
 use answers::Tally;
@@ -67,8 +67,8 @@ pub fn put_card(out: &mut [u8], at: usize, b: usize, cards: &[u8], g: usize) -> 
 
 // The bytes of each slot, a space before each.
 pub fn put_slots(out: &mut [u8], at: usize, s: usize, b: usize, cards: &[u8]) -> usize
-    requires { ⌜ (length (now cards) ≡ s * b) × Room (join (table s (cardText b (now cards)))) at (now out) ⌝ }
-    ensures { λ r. ⌜ Wrote (join (table s (cardText b (now (cards .entry))))) (now (out .entry)) at (now (out .exit)) r ⌝ }
+    requires { ⌜ (length (now cards) ≡ s * b) × Room (join (tabulate s (cardText b (now cards)))) at (now out) ⌝ }
+    ensures { λ r. ⌜ Wrote (join (tabulate s (cardText b (now (cards .entry))))) (now (out .entry)) at (now (out .exit)) r ⌝ }
 {
     let mut next = at;
     let mut g: usize = 0;

@@ -3,7 +3,7 @@ ghost use mathlib.Core.Path.{_≡_};
 ghost use mathlib.Core.List.{[], _∷_};
 ghost use Prim.Native.Nat.{_<_};
 ghost use Rattle.texts.specs.Text.{digit, decimal, hex};
-ghost use Rattle.texts.specs.Writing.{Room, Wrote};
+ghost use Rattle.texts.specs.parts.Writing.{Room, Wrote};
 
 // A word, byte by byte.
 pub fn put_text(out: &mut [u8], at: usize, word: &[u8]) -> usize

@@ -4,12 +4,11 @@ use Rattle.answers.specs.Answers.{movesOf}
 use Rattle.racks.specs.Table.{aways}
 use Rattle.racks.specs.Job.{racksOf}
 use Rattle.racks.proofs.Jobs.{sound-refused}
-use Rattle.tables.specs.Tables.{OpenCards, cardsNumber}
-use Rattle.moves.specs.Moves.{carried}
+use Rattle.tables.specs.parts.Tables.{OpenCards, cardsNumber}
+use Rattle.moves.specs.Moves.{carried, held}
 use Rattle.moves.specs.Phases.{budget}
-use Rattle.moves.specs.Parts.{held}
 use Rattle.moves.proofs.Outcomes.{outcome-refused, outcome-done}
-use Rattle.budgets.specs.Budgeted.{budgetedBy}
+use Rattle.budgets.specs.parts.Budgeted.{budgetedBy}
 use borrow.Author.Needs.{needs}
 use Rattle.budgets.proofs.parts.budget_job.Statement.{statement}
 use Rattle.budgets.proofs.parts.budget_job.Tie as tie

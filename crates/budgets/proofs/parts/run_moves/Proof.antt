@@ -3,7 +3,7 @@ use borrow.Author.Needs.{needs}
 use mathlib.Core.Path.{_≡_, refl}
 use Prim.Native.Nat.{_-_}
 use lib.ListN.{length}
-use Rattle.moves.specs.Parts.{held}
+use Rattle.moves.specs.Moves.{held}
 use Rattle.budgets.proofs.Turns.{MovesOnly, Turning, going-fixed, turn-runnable, turn-spent, turn-idle, moves-only, turning-first, turning-next, turning-more}
 use Rattle.budgets.proofs.parts.run_moves.Statement.{statement}
 use Rattle.budgets.proofs.parts.run_moves.Tie as tie

@@ -1,6 +1,6 @@
 use native.Mathlib.Omega.{arith}
 use borrow.Author.Needs.{needs}
-use Rattle.moves.specs.Parts.{held}
+use Rattle.moves.specs.Moves.{held}
 use Rattle.budgets.proofs.PhaseRuns.{made-fits, made-slots, made-counted, made-notable, phase-run}
 use Rattle.budgets.proofs.parts.run_phase.Statement.{statement}
 use Rattle.budgets.proofs.parts.run_phase.Tie as tie

@@ -5,9 +5,9 @@ use Rattle.answers.specs.Answers.{copiesOf}
 use Rattle.answers.proofs.Answers.{listed-refused}
 use Rattle.racks.specs.Numbers.{someAway}
 use Rattle.racks.specs.Job.{racksOf}
-use Rattle.tables.specs.Tables.{Open, tableNumber}
+use Rattle.tables.specs.parts.Tables.{Open, tableNumber}
 use Rattle.copies.specs.Copies.{copyList}
-use Rattle.copies.specs.Writes.{copyNumber, copiedBy}
+use Rattle.copies.specs.parts.Writes.{copyNumber, copiedBy}
 use Rattle.copies.proofs.Accepted.{open-chained, open-away}
 use Rattle.copies.proofs.Copied.{copied-table, copied-away, copied-home}
 use native.Mathlib.Omega.{arith}

@@ -5,7 +5,7 @@ use lib.ListN.{length}
 use borrow.Author.Needs.{needs}
 use Rattle.counting.specs.Count.{some}
 use Rattle.counting.proofs.Some.{some-zero}
-use Rattle.tables.specs.Tables.{awayBy}
+use Rattle.tables.specs.parts.Tables.{awayBy}
 use Rattle.copies.proofs.AwayBy.{some-next, some-whole}
 use Rattle.copies.proofs.parts.some_away.Statement.{statement}
 use Rattle.copies.proofs.parts.some_away.Tie as tie

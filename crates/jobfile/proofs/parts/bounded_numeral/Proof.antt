@@ -3,7 +3,7 @@ use mathlib.Core.Path.{sym, ap, _∙_}
 use native.Mathlib.Omega.{arith}
 use borrow.Author.Needs.{needs}
 use Rattle.jobfile.specs.Answers.{gotOf}
-use Rattle.jobfile.specs.Parts.{between, outside}
+use Rattle.jobfile.specs.parts.Parsing.{between, outside}
 use Rattle.jobfile.proofs.Numerals.{checked-form, checked-value, checked-bad, outside-low, outside-high, outside-none}
 use Rattle.jobfile.proofs.parts.bounded_numeral.Statement.{statement}
 use Rattle.jobfile.proofs.parts.bounded_numeral.Tie as tie

@@ -3,7 +3,7 @@ use mathlib.Core.Path.{sym}
 use native.Mathlib.Omega.{arith}
 use lib.ListN.{length-drop}
 use borrow.Author.Needs.{needs}
-use Rattle.jobfile.specs.Parts.{leftOf}
+use Rattle.jobfile.specs.parts.Parsing.{leftOf}
 use Rattle.jobfile.proofs.parts.left_of.Statement.{statement}
 use Rattle.jobfile.proofs.parts.left_of.Tie as tie
 

@@ -1,7 +1,7 @@
 -- `jobfile::parts::no_head` meets its contract. Assumes nothing.
 use mathlib.Core.Path.{ap}
 use borrow.Author.Needs.{needs}
-use Rattle.jobfile.specs.Parts.{noHead}
+use Rattle.jobfile.specs.parts.Parsing.{noHead}
 use Rattle.jobfile.proofs.parts.no_head.Statement.{statement}
 use Rattle.jobfile.proofs.parts.no_head.Tie as tie
 

@@ -4,7 +4,7 @@ use native.Mathlib.Omega.{arith}
 use borrow.Author.Needs.{needs}
 use Rattle.counting.specs.Checks.{first}
 use Rattle.jobfile.specs.File.{readEntries, fileChecks}
-use Rattle.jobfile.specs.Parts.{headChecks, Headed, entriesChecks}
+use Rattle.jobfile.specs.parts.Parsing.{headChecks, Headed, entriesChecks}
 use Rattle.jobfile.proofs.Files.{file-head, file-entries, file-end, job-sound, want-small, want-is, taken-number, taken-place, parsed-refused, parsed-done}
 use Rattle.jobfile.proofs.parts.parse.Statement.{statement}
 use Rattle.jobfile.proofs.parts.parse.Tie as tie

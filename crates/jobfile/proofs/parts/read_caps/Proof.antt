@@ -3,7 +3,7 @@ use mathlib.Core.Path.{_≡_, ap, _∙_}
 use Prim.Native.Nat.{_+_, _-_, _≤_}
 use native.Mathlib.Omega.{arith}
 use borrow.Author.Needs.{needs}
-use Rattle.jobfile.specs.Parts.{between, room}
+use Rattle.jobfile.specs.parts.Parsing.{between, room}
 use Rattle.jobfile.specs.Answers.{gotOf}
 use Rattle.jobfile.proofs.Numerals.{got, value-got, refused-got}
 use Rattle.jobfile.proofs.Capacities.{size-total, Capping, capping-none, capping-more, capping-stop, capping-done, cap-small}

@@ -6,7 +6,7 @@ use borrow.Author.Needs.{needs}
 use Rattle.racks.specs.Racks.{slots}
 use Rattle.racks.specs.Job.{racksOf}
 use Rattle.racks.proofs.Jobs.{sound-slots}
-use Rattle.jobfile.specs.Parts.{between}
+use Rattle.jobfile.specs.parts.Parsing.{between}
 use Rattle.jobfile.proofs.Numerals.{got, value-got, refused-got}
 use Rattle.jobfile.proofs.Entries.{Entering, entering-none, entering-stop, entering-5, entering-more, entering-done, entry-small}
 use Rattle.jobfile.proofs.parts.read_entries.Statement.{statement}

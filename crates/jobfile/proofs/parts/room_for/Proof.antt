@@ -1,7 +1,7 @@
 -- `jobfile::parts::room_for` meets its contract. Assumes nothing.
 use borrow.Author.Tests.{lt-ltb, le-ltb}
 use borrow.Author.Needs.{needs}
-use Rattle.jobfile.specs.Parts.{room}
+use Rattle.jobfile.specs.parts.Parsing.{room}
 use Rattle.jobfile.proofs.parts.room_for.Statement.{statement}
 use Rattle.jobfile.proofs.parts.room_for.Tie as tie
 

@@ -4,8 +4,8 @@ use mathlib.Core.Path.{_≡_, refl}
 use Prim.Native.Nat.{_+_, _-_, _≤_}
 use lib.ListN.{length}
 use Rattle.answers.specs.Answers.{plusMoves}
-use Rattle.moves.specs.Moves.{carried}
-use Rattle.moves.specs.Parts.{pairsIn, AllSlots, held}
+use Rattle.moves.specs.Moves.{carried, held}
+use Rattle.moves.specs.parts.Carrying.{pairsIn, AllSlots}
 use Rattle.moves.proofs.Flat.{slots-first, slots-rest}
 use Rattle.moves.proofs.Carries.{carry-more, carry-done, Tallying, tallying-more, tallying-done}
 use Rattle.moves.proofs.parts.carry.Statement.{statement}

@@ -1,5 +1,6 @@
 use mathlib.Core.Path.{refl, sym, _∙_}
-use Rattle.moves.specs.Parts.{held, movedBy}
+use Rattle.moves.specs.parts.Carrying.{movedBy}
+use Rattle.moves.specs.Moves.{held}
 use Rattle.moves.proofs.Outcomes.{outcome-refused, outcome-done}
 use borrow.Author.Needs.{needs}
 use Rattle.moves.proofs.parts.move_job.Statement.{statement}

@@ -1,5 +1,5 @@
 use mathlib.Core.Path.{sym, _∙_}
-use Rattle.moves.specs.Parts.{held}
+use Rattle.moves.specs.Moves.{held}
 use Rattle.moves.proofs.Outcomes.{move-refused, move-ends}
 use borrow.Author.Needs.{needs}
 use Rattle.moves.proofs.parts.move_number.Statement.{statement}

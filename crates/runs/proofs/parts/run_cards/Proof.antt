@@ -1,5 +1,5 @@
 use Rattle.racks.specs.Job.{racksOf}
-use Rattle.moves.specs.Parts.{held}
+use Rattle.moves.specs.Moves.{held}
 use Rattle.runs.proofs.Ending.{ends-chained, ends-long, ends-none, ends-ran}
 use borrow.Author.Needs.{needs}
 use Rattle.runs.proofs.parts.run_cards.Statement.{statement}

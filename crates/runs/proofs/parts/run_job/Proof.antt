@@ -1,12 +1,12 @@
 use mathlib.Core.Path.{refl, sym, _∙_}
 use Rattle.racks.specs.Job.{racksOf}
 use Rattle.racks.proofs.Jobs.{sound-refused}
-use Rattle.tables.specs.Tables.{OpenCards, cardsNumber}
-use Rattle.moves.specs.Parts.{held}
+use Rattle.tables.specs.parts.Tables.{OpenCards, cardsNumber}
+use Rattle.moves.specs.Moves.{held}
 use Rattle.moves.proofs.Outcomes.{outcome-refused, outcome-done}
 use Rattle.shuffle.specs.Shuffle.{settledHeld}
 use Rattle.runs.specs.Run.{gathered, counts}
-use Rattle.runs.specs.Ran.{ranBy}
+use Rattle.runs.specs.parts.Ran.{ranBy}
 use borrow.Author.Needs.{needs}
 use Rattle.runs.proofs.parts.run_job.Statement.{statement}
 use Rattle.runs.proofs.parts.run_job.Tie as tie

@@ -7,13 +7,13 @@ use Rattle.answers.specs.Answers.{copiesOf, plusCopies}
 use Rattle.answers.specs.declared.Tally.{Tally}
 use Rattle.racks.specs.Numbers.{someAway}
 use Rattle.racks.specs.Job.{racksOf}
-use Rattle.tables.specs.Tables.{OpenCards, cardsNumber}
-use Rattle.moves.specs.Parts.{held}
+use Rattle.tables.specs.parts.Tables.{OpenCards, cardsNumber}
+use Rattle.moves.specs.Moves.{held}
 use Rattle.moves.proofs.Outcomes.{outcome-refused, outcome-done}
 use Rattle.copies.specs.Copies.{copyList}
 use Rattle.copies.proofs.Accepted.{open-chained, open-away}
 use Rattle.shuffle.specs.Shuffle.{settledHeld}
-use Rattle.shuffle.specs.Shuffled.{shuffleNumber, shuffledBy}
+use Rattle.shuffle.specs.parts.Shuffled.{shuffleNumber, shuffledBy}
 use Rattle.shuffle.proofs.Shuffles.{settled-held, shuffled-table, shuffled-away, shuffled-none}
 use borrow.Author.Needs.{needs}
 use Rattle.shuffle.proofs.parts.shuffle_job.Statement.{statement}

@@ -1,6 +1,6 @@
 use borrow.Author.Needs.{needs}
 use Rattle.shuffle.proofs.Settling.{zeroed-none, zeroed-more}
-use Rattle.shuffle.specs.Hands.{Zeroed}
+use Rattle.shuffle.specs.parts.Hands.{Zeroed}
 use Rattle.moves.proofs.Blocks.{within}
 use mathlib.Core.Path.{_≡_, _∙_}
 use Prim.Native.Nat.{_≤_, _-_}

@@ -1,5 +1,5 @@
 use mathlib.Core.Path.{_≡_, sym, _∙_}
-use Rattle.tables.specs.Tables.{Open, tableNumber}
+use Rattle.tables.specs.parts.Tables.{Open, tableNumber}
 use Rattle.slots.proofs.Slots.{asked-refused, asked-past, asked-is}
 use borrow.Author.Needs.{needs}
 use Rattle.slots.proofs.parts.ask_job.Statement.{statement}

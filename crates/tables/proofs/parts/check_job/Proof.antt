@@ -1,6 +1,6 @@
 use mathlib.Core.Path.{ap, _∙_}
 use Rattle.answers.specs.Answers.{answer, noCounts}
-use Rattle.tables.specs.Tables.{checkedBy}
+use Rattle.tables.specs.parts.Tables.{checkedBy}
 use borrow.Author.Needs.{needs}
 use Rattle.tables.proofs.parts.check_job.Statement.{statement}
 use Rattle.tables.proofs.parts.check_job.Tie as tie

@@ -2,7 +2,7 @@ use Rattle.tables.proofs.Fills.{between-none, between-more, between-don
 use borrow.Author.Needs.{needs}
 use native.Mathlib.Omega.{arith}
 use Prim.Native.Nat.{_-_, _≤_, _<_}
-use Rattle.tables.specs.Tables.{Between}
+use Rattle.tables.specs.parts.Tables.{Between}
 use Rattle.tables.proofs.parts.fill.Statement.{statement}
 use Rattle.tables.proofs.parts.fill.Tie as tie
 

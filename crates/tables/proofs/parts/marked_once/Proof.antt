@@ -5,7 +5,7 @@ use mathlib.Core.Path.{ap, _∙_}
 use Rattle.racks.specs.Job.{racksOf}
 use Rattle.racks.proofs.Jobs.{slots-few, sound-slots}
 use Rattle.racks.specs.Table.{dest}
-use Rattle.tables.specs.Once.{placeOf}
+use Rattle.tables.specs.parts.Once.{placeOf}
 use Rattle.tables.proofs.Once.{Once, once-none, once-more, once-all, place-in}
 use Rattle.tables.proofs.parts.marked_once.Statement.{statement}
 use Rattle.tables.proofs.parts.marked_once.Tie as tie

@@ -1,6 +1,6 @@
 use borrow.Author.Tests.{eq-eqb, ne-eqb}
 use Rattle.racks.specs.Limits.{FREE}
-use Rattle.tables.specs.Tables.{namedSlot}
+use Rattle.tables.specs.parts.Tables.{namedSlot}
 use Rattle.tables.proofs.parts.named_slot.Statement.{statement}
 use Rattle.tables.proofs.parts.named_slot.Tie as tie
 

@@ -1,5 +1,5 @@
 use borrow.Author.Tests.{eq-eqb, ne-eqb}
-use Rattle.tables.specs.Marks.{worse}
+use Rattle.tables.specs.parts.Marks.{worse}
 use Rattle.tables.proofs.parts.worse_of.Statement.{statement}
 use Rattle.tables.proofs.parts.worse_of.Tie as tie
 

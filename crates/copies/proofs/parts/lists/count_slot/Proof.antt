@@ -1,4 +1,4 @@
-use Rattle.copies.specs.Writes.{walkCount}
+use Rattle.copies.specs.parts.Writes.{walkCount}
 use Rattle.copies.proofs.Writing.{walk-left}
 use Rattle.copies.proofs.Progress.{counted-none, counted-due, due-count}
 use mathlib.Core.Path.{ap}

@@ -1,5 +1,5 @@
 use Rattle.copies.proofs.Progress.{written-none, counted-due, due-copies, due-count}
-use Rattle.copies.specs.Writes.{putCopies}
+use Rattle.copies.specs.parts.Writes.{putCopies}
 use mathlib.Core.Path.{sym, ap, _∙_}
 use native.Mathlib.Omega.{arith}
 use borrow.Author.Needs.{needs}

@@ -1,4 +1,4 @@
-use Rattle.copies.specs.Writes.{handEnd}
+use Rattle.copies.specs.parts.Writes.{handEnd}
 use borrow.Author.Tests.{eq-eqb, ne-eqb}
 use Rattle.copies.proofs.parts.walks.hand_end.Statement.{statement}
 use Rattle.copies.proofs.parts.walks.hand_end.Tie as tie

@@ -5,7 +5,7 @@ use Prim.Native.Nat.{_+_, _-_, _≤_}
 use Rattle.racks.specs.Table.{free}
 use Rattle.counting.specs.Count.{count}
 use Rattle.counting.proofs.Tests.{bit-le}
-use Rattle.queues.specs.Queued.{freeFrom}
+use Rattle.queues.specs.parts.Queued.{freeFrom}
 use Rattle.queues.proofs.Placing.{free-none, free-more}
 use Rattle.queues.proofs.parts.arrivals.count_free.Statement.{statement}
 use Rattle.queues.proofs.parts.arrivals.count_free.Tie as tie

@@ -1,7 +1,7 @@
 use native.Mathlib.Omega.{arith}
 use mathlib.Core.Path.{_≡_}
 use Prim.Native.Nat.{_-_, _≤_}
-use Rattle.queues.specs.Queued.{Awaiting}
+use Rattle.queues.specs.parts.Queued.{Awaiting}
 use Rattle.queues.proofs.AllQueued.{awaiting-none, awaiting-more}
 use Rattle.queues.proofs.parts.arrivals.find_waiting.Statement.{statement}
 use Rattle.queues.proofs.parts.arrivals.find_waiting.Tie as tie

@@ -1,6 +1,6 @@
 use borrow.Author.Needs.{needs}
 use mathlib.Core.Path.{refl}
-use Rattle.queues.specs.Queued.{placed}
+use Rattle.queues.specs.parts.Queued.{placed}
 use Rattle.queues.proofs.parts.arrivals.place_rack.Statement.{statement}
 use Rattle.queues.proofs.parts.arrivals.place_rack.Tie as tie
 

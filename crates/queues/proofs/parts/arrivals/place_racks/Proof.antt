@@ -5,7 +5,7 @@ use native.Mathlib.Numerals.{add-one}
 use Rattle.racks.specs.Racks.{base}
 use Rattle.racks.specs.Job.{racksOf}
 use Rattle.racks.proofs.Geometry.{base-zero}
-use Rattle.queues.specs.Queued.{Placed}
+use Rattle.queues.specs.parts.Queued.{Placed}
 use Rattle.queues.proofs.Placing.{Bounds, job-bounds, placed-none, placed-more, rooms-counted}
 use Rattle.queues.proofs.parts.arrivals.place_racks.Statement.{statement}
 use Rattle.queues.proofs.parts.arrivals.place_racks.Tie as tie

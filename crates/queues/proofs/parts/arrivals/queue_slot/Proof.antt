@@ -5,7 +5,7 @@ use Prim.Native.Nat.{_<_}
 use lib.Dec.{eqb}
 use lib.ListN.{getD}
 use Rattle.counting.proofs.Tests.{bit-le}
-use Rattle.queues.specs.Line.{tailOf}
+use Rattle.queues.specs.parts.Line.{tailOf}
 use Rattle.queues.proofs.QueueSlot.{slot-racked, slot-fits, queued-slot}
 use Rattle.queues.proofs.parts.arrivals.queue_slot.Statement.{statement}
 use Rattle.queues.proofs.parts.arrivals.queue_slot.Tie as tie

@@ -3,7 +3,7 @@ use native.Mathlib.Omega.{arith}
 use Prim.Native.Nat.{_-_, _≤_}
 use mathlib.Core.Path.{_≡_}
 use Rattle.racks.specs.Table.{free}
-use Rattle.queues.specs.Openings.{Word}
+use Rattle.queues.specs.parts.Openings.{Word}
 use Rattle.counting.proofs.Tests.{bit-le}
 use Rattle.queues.proofs.Openings.{word-none, word-more, doubled-fits}
 use Rattle.queues.proofs.parts.openings.free_word.Statement.{statement}

@@ -2,7 +2,7 @@ use native.Mathlib.Omega.{arith}
 use borrow.Author.Needs.{needs}
 use Prim.Native.Nat.{_+_, _*_, _-_, _^_, _≤_, _<_}
 use lib.ListN.{length}
-use Rattle.queues.specs.Queues.{rowsOf, sent}
+use Rattle.queues.specs.parts.Queues.{rowsOf, sent}
 use Rattle.queues.proofs.Planning.{Reached, reached-first, planned-long, planned-all, next-visitable, next-fits, next-count, reached-up, reached-more}
 use Rattle.queues.proofs.parts.planning.plan_phase.Statement.{statement}
 use Rattle.queues.proofs.parts.planning.plan_phase.Tie as tie

@@ -1,7 +1,7 @@
 use native.Mathlib.Omega.{arith}
 use Prim.Native.Nat.{_+_, _-_, _≤_, _<_}
 use lib.ListN.{length, length-set}
-use Rattle.queues.specs.Line.{queueOf}
+use Rattle.queues.specs.parts.Line.{queueOf}
 use Rattle.queues.proofs.Line.{queue-long, queue-get}
 use Rattle.queues.proofs.Pairing.{Paired, paired-all, paired-done, paired-onward, paired-bit, paired-slot, paired-room, paired-more}
 use Rattle.queues.proofs.parts.planning.plan_rack.Statement.{statement}

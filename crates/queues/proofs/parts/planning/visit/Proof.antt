@@ -1,6 +1,6 @@
 use native.Mathlib.Omega.{arith}
 use borrow.Author.Needs.{needs}
-use Rattle.queues.specs.Line.{lowOf}
+use Rattle.queues.specs.parts.Line.{lowOf}
 use Rattle.queues.proofs.Opens.{open-few}
 use Rattle.queues.proofs.Pairing.{visit-made, visit-done}
 use Rattle.queues.proofs.parts.planning.visit.Statement.{statement}

@@ -2,8 +2,8 @@ use native.Mathlib.Omega.{arith}
 use mathlib.Core.Path.{refl}
 use Prim.Native.Nat.{_+_, _-_, _≤_}
 use lib.ListN.{length}
-use Rattle.moves.specs.Parts.{pairsIn}
-use Rattle.runs.specs.Kept.{paid}
+use Rattle.moves.specs.parts.Carrying.{pairsIn}
+use Rattle.runs.specs.parts.Kept.{paid}
 use Rattle.runs.proofs.Paying.{Paying, paying-ends, paying-owed, paying-more, paying-done}
 use Rattle.runs.proofs.parts.paying.pay_moves.Statement.{statement}
 use Rattle.runs.proofs.parts.paying.pay_moves.Tie as tie

@@ -3,7 +3,7 @@ use mathlib.Core.Path.{_≡_}
 use mathlib.Core.Bool.{false}
 use Prim.Native.Nat.{ℕ, _-_, _≤_, _<_}
 use borrow.Author.Count.{below-more}
-use Rattle.runs.specs.Kept.{owing}
+use Rattle.runs.specs.parts.Kept.{owing}
 use Rattle.runs.proofs.Gathers.{owing-none, owing-some}
 use Rattle.runs.proofs.parts.rounds.next_awaited.Statement.{statement}
 use Rattle.runs.proofs.parts.rounds.next_awaited.Tie as tie

@@ -4,7 +4,7 @@ use borrow.Author.Needs.{needs}
 use mathlib.Core.Path.{_≡_, refl, ap}
 use Prim.Native.Nat.{_*_, _-_, _≤_}
 use lib.ListN.{length}
-use Rattle.moves.specs.Parts.{held}
+use Rattle.moves.specs.Moves.{held}
 use Rattle.runs.proofs.Gathers.{Gathering, gathering-first, gathering-few, gathering-round, gathering-more, gathering-next, gathering-done}
 use Rattle.runs.proofs.parts.rounds.run_phases.Statement.{statement}
 use Rattle.runs.proofs.parts.rounds.run_phases.Tie as tie

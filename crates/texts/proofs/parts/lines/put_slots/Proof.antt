@@ -1,10 +1,10 @@
 use Prim.Native.Nat.{_≤_, _-_}
 use mathlib.Core.Path.{_≡_}
 use native.Mathlib.Omega.{arith}
-use Rattle.counting.specs.Lists.{join, table}
+use Rattle.counting.specs.Lists.{join, tabulate}
 use Rattle.moves.proofs.Blocks.{within}
 use Rattle.texts.specs.Lines.{cardText}
-use Rattle.texts.specs.Writing.{Wrote}
+use Rattle.texts.specs.parts.Writing.{Wrote}
 use Rattle.texts.proofs.Writing.{wrote-length}
 use Rattle.texts.proofs.Cards.{cards-first, card-room, card-next}
 use Rattle.texts.proofs.parts.lines.put_slots.Statement.{statement}
@@ -12,7 +12,7 @@ use Rattle.texts.proofs.parts.lines.put_slots.Tie as tie
 
 abbrev Inv-loop : tie.InvT-loop
 Inv-loop out₀ at s b cards next₀ g₀ out next g =
-    (g ≤ s) × Wrote (join (table g (cardText b cards))) out₀ at out next
+    (g ≤ s) × Wrote (join (tabulate g (cardText b cards))) out₀ at out next
 
 abbrev μ-loop : tie.MeasureT-loop
 μ-loop out₀ at s b cards next₀ g₀ out next g = s - g

@@ -5,7 +5,7 @@ use Prim.Native.Nat.{_/_, _%_}
 use native.Mathlib.Omega.{arith}
 use lib.ListN.{length}
 use Rattle.texts.specs.Text.{digit, decimal}
-use Rattle.texts.specs.Writing.{Room}
+use Rattle.texts.specs.parts.Writing.{Room}
 use Rattle.texts.proofs.Writing.{room-first, room-next}
 use Rattle.texts.proofs.Digits.{decimal-low, decimal-more, wrote-low, wrote-more}
 use Prim.Native.Nat.{ℕ, _<_}

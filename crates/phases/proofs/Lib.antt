@@ -1,4 +1,0 @@
-pub mod Allowed
-pub mod Grants
-pub mod Plans
-pub mod Possible

@@ -1,0 +1,3 @@
+pub mod Owed
+pub mod PairCount
+pub mod Planned

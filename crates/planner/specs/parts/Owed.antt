@@ -1,0 +1,49 @@
+-- What racks owe, as the code counts it: a flat table of 64 by 64 counts at rack times 64 plus rack. Assumes nothing: these are definitions.
+use mathlib.Core.Path.{_≡_}
+use mathlib.Core.List.{List}
+use Prim.Native.Nat.{ℕ, zero, suc, _+_, _*_, _-_, _<_, min}
+use lib.ListN.{length, getD}
+use Rattle.counting.specs.Tests.{pick}
+use Rattle.racks.specs.Racks.{Rack}
+use Rattle.racks.specs.Table.{dest, owes}
+use Rattle.tables.specs.parts.Tables.{namedSlot, target, awayBy}
+use Rattle.plans.specs.Plan.{other}
+use Rattle.queues.specs.parts.Queued.{oneMore}
+
+-- where what rack i owes rack p stands
+abbrev pub cell : ℕ → ℕ → ℕ
+cell i p = i * 64 + p
+
+-- the table has what each rack owes each other
+pub record Owed (racks : List Rack) (places owed : List ℕ) : Type 0 where
+  pub counts : (i p : ℕ) → i < 64 → p < 64 → getD owed (cell i p) 0 ≡ owes racks places i p
+  pub long : length owed ≡ 4096
+
+-- what racks owe with slot g counted: a card that is away adds one
+unfoldable pub owesWith : List ℕ → List ℕ → ℕ → List ℕ → List ℕ
+owesWith places racking g owed = pick (awayBy racking places g) (oneMore owed (cell (getD racking g 0) (target racking places g))) owed
+
+-- slot g can be counted: its rack and its card's rack (its own where it is free) are in the table, and the count of the two has room for one more
+pub record Countable (places racking : List ℕ) (g : ℕ) (owed : List ℕ) : Type 0 where
+  pub slot : g < length places
+  pub small : g < 4096
+  pub rack : getD racking g 0 < 64
+  pub named : namedSlot g (dest places g) < 4096
+  pub racked : target racking places g < 64
+  pub owed-long : length owed ≡ 4096
+  pub owed-fit : (k : ℕ) → getD owed k 0 < 65535
+
+-- what rack p, with r free slots to give, grants rack i that owes it so many cards; it is no source of its own
+unfoldable pub grant : ℕ → ℕ → ℕ → ℕ → ℕ
+grant p r i owed = pick (other p i) (min r owed) 0
+
+-- what is left of rack p's r free slots when the first n racks have their grants
+unfoldable pub left : List ℕ → ℕ → ℕ → ℕ → ℕ
+left owed p r zero = r
+left owed p r (suc n) =
+    let s = left owed p r n in
+    s - grant p s n (getD owed (cell n p) 0)
+
+-- how many cards rack p, with r free slots to give, grants n racks in all
+unfoldable pub grants : ℕ → List ℕ → ℕ → ℕ → ℕ
+grants n owed p r = r - left owed p r n

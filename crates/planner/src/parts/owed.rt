@@ -1,0 +1,81 @@
+// What racks owe, counted into a flat table of 64 by 64 counts, and how many pairs a phase has by the grants of each rack.
+ghost use mathlib.Core.Path.{_≡_};
+ghost use Prim.Native.Nat.{_≤_, _<_};
+ghost use lib.ListN.{length};
+ghost use Rattle.racks.specs.Job.{racksOf};
+ghost use Rattle.tables.specs.parts.Tables.{Open};
+ghost use Rattle.plans.specs.Plan.{plan};
+ghost use Rattle.queues.specs.parts.Line.{Blank};
+ghost use Rattle.planner.specs.parts.Owed.{Owed, Countable, owesWith, grant, grants};
+use queues::parts::arrivals;
+use racks::Job;
+
+// Counts slot g: a card that is away, for its rack and the one that it is bound for. The count is stored, with 0 or 1 added: where free and
+// taken slots alternate at random no branch on a slot could be foretold.
+fn count_slot(places: &[u16], racking: &[u8; 4096], g: usize, owes: &mut [u16; 4096])
+    requires { ⌜ Countable (now places) (now racking) g (now owes) ⌝ }
+    ensures { λ _. ⌜ now (owes .exit) ≡ owesWith (now (places .entry)) (now (racking .entry)) g (now (owes .entry)) ⌝ }
+{
+    let from = racking[g] as usize;
+    let to = racking[tables::parts::named_slot(places[g], g)] as usize;
+    let k = from * 64 + to;
+    owes[k] = owes[k] + tables::parts::one_if(from != to);
+}
+
+// What each rack of a legal table owes each other, into a table of zeros: one pass over the slots.
+pub fn count_owed(job: Job, places: &[u16], racking: &[u8; 4096], owes: &mut [u16; 4096])
+    requires { ⌜ Open job (now places) (now racking) × Blank 4096 (now owes) ⌝ }
+    ensures { λ _. ⌜ Owed (racksOf job) (now (places .entry)) (now (owes .exit)) ⌝ }
+{
+    let mut g: usize = 0;
+    while g < job.slots {
+        count_slot(places, racking, g, owes);
+        g = g + 1;
+    }
+}
+
+// What rack p, with r free slots to give, grants rack i that owes it so many cards.
+fn grant_source(p: usize, r: usize, i: usize, owed: u16) -> usize
+    ensures { λ x. ⌜ x ≡ grant p r i owed ⌝ }
+{
+    if i == p {
+        return 0;
+    }
+    if r < owed as usize {
+        return r;
+    }
+    owed as usize
+}
+
+// How many cards rack p grants: its sources in ascending order take what is left of its free slots.
+pub fn grant_rack(n: usize, owes: &[u16; 4096], p: usize, room: usize) -> usize
+    requires { ⌜ (n ≤ 64) × (p < n) ⌝ }
+    ensures { λ x. ⌜ x ≡ grants n (now (owes .entry)) p room ⌝ }
+{
+    let mut r = room;
+    let mut i: usize = 0;
+    while i < n {
+        r = r - grant_source(p, r, i, owes[i * 64 + p]);
+        i = i + 1;
+    }
+    room - r
+}
+
+// How many pairs the plan of a legal table has: what each rack, with its free slots, grants its sources in turn.
+pub fn count_pairs(job: Job, places: &[u16], racking: &[u8; 4096], owes: &mut [u16; 4096]) -> usize
+    requires { ⌜ Open job (now places) (now racking) × Blank 4096 (now owes) ⌝ }
+    ensures { λ r. ⌜ r ≡ length (plan (racksOf job) (now (places .entry))) ⌝ }
+{
+    count_owed(job, places, racking, owes);
+    let mut pairs: usize = 0;
+    let mut low: usize = 0;
+    let mut p: usize = 0;
+    while p < job.racks {
+        let high = job.ends[p] as usize;
+        let room = arrivals::count_free(places, low, high) as usize;
+        pairs = pairs + grant_rack(job.racks, owes, p, room);
+        low = high;
+        p = p + 1;
+    }
+    pairs
+}

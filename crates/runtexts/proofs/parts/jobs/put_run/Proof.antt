@@ -1,0 +1,87 @@
+use native.Mathlib.Omega.{arith}
+use Rattle.moves.specs.Moves.{held}
+use Rattle.runtexts.proofs.Texts.{Runs, runs-first, put-readable, read-room, put-chained, put-long, put-none, put-fits, copies-room, last-long, cards-room, end-room, run-wrote}
+use Rattle.racks.specs.Job.{racksOf}
+use borrow.Author.Needs.{needs}
+use Rattle.runtexts.proofs.parts.jobs.put_run.Statement.{statement}
+use Rattle.runtexts.proofs.parts.jobs.put_run.Tie as tie
+
+-- a legal job, and room for the text of its run
+runs : (c : tie.Start) → Runs (racksOf (c .args .job)) (c .args .b) (held (c .args .places .now) (c .args .cards .now)) (c .args .out .now)
+runs c = runs-first (c .pre .0) (c .pre .1) (c .pre .2) (c .pre .4)
+
+slice-aggregate-make-phases : tie.Need-slice-aggregate-make-phases
+slice-aggregate-make-phases c = search needs
+
+make-phases-requires : tie.Need-make-phases-requires
+make-phases-requires c κs = search needs
+
+slice-aggregate-put-phases : tie.Need-slice-aggregate-put-phases
+slice-aggregate-put-phases c = search needs
+
+put-phases-requires : tie.Need-put-phases-requires
+put-phases-requires c κs =
+    let r = runs (c .before .before .before .before .before .before .before .before .before .before .before .before .before .before) in
+    let p = c .before .before .before .before .before .before .before .make-phases .ensures in
+    (put-readable r p (omega arith), read-room r p)
+
+slice-aggregate-put-copy-list : tie.Need-slice-aggregate-put-copy-list
+slice-aggregate-put-copy-list c = search needs
+
+put-copy-list-requires : tie.Need-put-copy-list-requires
+put-copy-list-requires c κs =
+    let r = runs (c .before .before .before .before .before .before .before .before .before .before .before .before .before .before .before .before .before .before .before .before) in
+    let p = c .before .before .before .before .before .before .before .before .before .before .before .before .before .make-phases .ensures in
+    (put-chained r p, omega (arith, put-fits r p), copies-room r p (c .before .before .before .before .before .put-phases .ensures))
+
+settle-requires : tie.Need-settle-requires
+settle-requires c κs =
+    let r = runs (c .before .before .before .before .before .before .before .before .before .before .before .before .before .before .before .before .before .before .before .before .before .before .before .before .before .before) in
+    let p = c .before .before .before .before .before .before .before .before .before .before .before .before .before .before .before .before .before .before .before .make-phases .ensures in
+    (put-chained r p, c .before .before .before .before .before .before .before .before .before .before .before .before .before .before .before .before .before .before .before .before .before .before .before .before .before .before .pre .3, put-long r p, put-none r p)
+
+put-cards-requires : tie.Need-put-cards-requires
+put-cards-requires c κs =
+    let r = runs (c .before .before .before .before .before .before .before .before .before .before .before .before .before .before .before .before .before .before .before .before .before .before .before .before .before .before .before .before .before .before .before .before .before) in
+    let p = c .before .before .before .before .before .before .before .before .before .before .before .before .before .before .before .before .before .before .before .before .before .before .before .before .before .before .make-phases .ensures in
+    let w = c .before .before .before .before .before .before .before .before .before .before .before .before .before .before .before .before .before .before .put-phases .ensures in
+    let v = c .before .before .before .before .before .before .before .before .before .before .before .before .put-copy-list .ensures in
+    let e = c .before .before .before .before .before .before .settle .ensures in
+    (last-long r p w v e, cards-room r p w v e)
+
+put-end-requires : tie.Need-put-end-requires
+put-end-requires c κs =
+    let r = runs (c .before .before .before .before .before .before .before .before .before .before .before .before .before .before .before .before .before .before .before .before .before .before .before .before .before .before .before .before .before .before .before .before .before .before .before .before .before) in
+    end-room r (c .before .before .before .before .before .before .before .before .before .before .before .before .before .before .before .before .before .before .before .before .before .before .before .before .before .before .before .before .before .before .make-phases .ensures) (c .before .before .before .before .before .before .before .before .before .before .before .before .before .before .before .before .before .before .before .before .before .before .put-phases .ensures) (c .before .before .before .before .before .before .before .before .before .before .before .before .before .before .before .before .put-copy-list .ensures) (c .before .before .before .before .before .before .before .before .before .before .settle .ensures) (c .before .before .before .put-cards .ensures)
+
+same-length : tie.Need-same-length
+same-length c = search needs
+
+same-length-2 : tie.Need-same-length-2
+same-length-2 c = omega (arith, c .before .before .before .before .before .before .before .before .before .before .before .before .before .settle .kept .1 .0, c .before .before .before .before .before .before .before .before .before .before .before .before .before .before .before .before .before .before .before .before .before .before .before .before .before .before .before .before .before .before .before .before .before .make-phases .kept .1 .1 .0)
+
+same-length-3 : tie.Need-same-length-3
+same-length-3 c = omega (arith, c .before .before .before .before .before .before .before .before .before .before .before .before .before .settle .kept .1 .1 .0, c .before .before .before .before .before .before .before .before .before .before .before .before .before .before .before .before .before .before .before .before .before .before .before .before .before .before .before .before .before .before .before .before .before .make-phases .kept .1 .1 .1 .0)
+
+returns : tie.Need-returns
+returns c =
+    let r = runs (c .before .before .before .before .before .before .before .before .before .before .before .before .before .before .before .before .before .before .before .before .before .before .before .before .before .before .before .before .before .before .before .before .before .before .before .before .before .before .before .before) in
+    run-wrote r (c .before .before .before .before .before .before .before .before .before .before .before .before .before .before .before .before .before .before .before .before .before .before .before .before .before .before .before .before .before .before .before .before .before .make-phases .ensures) (c .before .before .before .before .before .before .before .before .before .before .before .before .before .before .before .before .before .before .before .before .before .before .before .before .before .put-phases .ensures) (c .before .before .before .before .before .before .before .before .before .before .before .before .before .before .before .before .before .before .before .put-copy-list .ensures) (c .before .before .before .before .before .before .before .before .before .before .before .before .before .settle .ensures) (c .before .before .before .before .before .before .put-cards .ensures) (c .before .before .put-end .ensures)
+
+pub put-run-spec : {M : Type 1} → statement M
+put-run-spec =
+    tie.close
+    (tie.spec
+    slice-aggregate-make-phases
+    make-phases-requires
+    slice-aggregate-put-phases
+    put-phases-requires
+    slice-aggregate-put-copy-list
+    put-copy-list-requires
+    settle-requires
+    put-cards-requires
+    put-end-requires
+    same-length
+    same-length-2
+    same-length-3
+    returns)

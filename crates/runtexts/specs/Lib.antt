@@ -1,0 +1,2 @@
+pub mod RunText
+pub mod parts

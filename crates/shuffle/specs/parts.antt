@@ -1,0 +1,2 @@
+pub mod Hands
+pub mod Shuffled

@@ -1,0 +1,86 @@
+-- What the tables of bytes hold, and the number of a lent table, by the job. Assumes nothing: these are definitions.
+use mathlib.Core.Path.{_≡_}
+use mathlib.Core.Bool.{Bool, not}
+use mathlib.Core.List.{List, [], _∷_}
+use Prim.Native.Nat.{ℕ, _*_, _≤_, _<_}
+use lib.Dec.{eqb}
+use lib.ListN.{length, getD}
+use Rattle.counting.specs.Tests.{_or_, bit, pick}
+use Rattle.counting.specs.Checks.{first, refusal}
+use Rattle.answers.specs.Answers.{answer, noCounts}
+use Rattle.answers.specs.declared.Answer.{Answer}
+use Rattle.racks.specs.Limits.{BYTES, SLOTS, FREE}
+use Rattle.racks.specs.Racks.{Rack, slots, rackOf, isUser}
+use Rattle.racks.specs.Table.{dest}
+use Rattle.racks.specs.parts.Legal.{Legal}
+use Rattle.racks.specs.Numbers.{badBytes, badPlaces, badCards, entryChecks, placesChecks}
+use Rattle.racks.specs.Job.{racksOf, Sound}
+use Rattle.racks.specs.declared.Job.{Job}
+
+-- the slot that entry x of slot g names; where slot g is free, itself
+unfoldable pub namedSlot : ℕ → ℕ → ℕ
+namedSlot g x = pick (eqb x FREE) g x
+
+-- by each slot's rack: the rack where the card in slot g must end; where the slot is free, its own
+unfoldable pub target : List ℕ → List ℕ → ℕ → ℕ
+target racking places g = getD racking (namedSlot g (dest places g)) 0
+
+-- by each slot's rack, slot g has a card that is away
+unfoldable pub awayBy : List ℕ → List ℕ → ℕ → Bool
+awayBy racking places g = not (eqb (getD racking g 0) (target racking places g))
+
+-- the racking: the list has each slot's rack
+abbrev pub Filled : List Rack → List ℕ → Type 0
+Filled racks racking = (g : ℕ) → g < slots racks → getD racking g 0 ≡ rackOf racks g
+
+-- the list has 1 at each user slot and 0 elsewhere
+pub record Marked (racks : List Rack) (list : List ℕ) : Type 0 where
+  pub marks : (g : ℕ) → g < SLOTS → getD list g 0 ≡ bit (isUser racks g)
+  pub long : length list ≡ SLOTS
+
+-- the list has the value from low up to high, elsewhere what it had, and its length
+pub record Between (low high value : ℕ) (before after : List ℕ) : Type 0 where
+  pub inside : (g : ℕ) → low ≤ g → g < high → getD after g 0 ≡ value
+  pub below : (g : ℕ) → g < low → getD after g 0 ≡ getD before g 0
+  pub above : (g : ℕ) → high ≤ g → low ≤ g → getD after g 0 ≡ getD before g 0
+  pub long : length after ≡ length before
+
+-- what acceptance gives: a sound job, a legal table, and each slot's rack
+pub record Open (job : Job) (places racking : List ℕ) : Type 0 where
+  pub sound : Sound job
+  pub legal : Legal (racksOf job) places
+  pub filled : Filled (racksOf job) racking
+
+-- and with cards: they are S·B bytes, and B is not too large
+pub record OpenCards (job : Job) (b : ℕ) (places cards racking : List ℕ) : Type 0 where
+  pub table : Open job places racking
+  pub bytes : b ≤ BYTES
+  pub long : length cards ≡ slots (racksOf job) * b
+
+-- the number of a table, by a job: what its racks are refused with, then 4 to 6
+unfoldable pub tableNumber : Job → List ℕ → ℕ
+tableNumber job places = first (refusal (job .refused) ∷ placesChecks (racksOf job) places)
+
+-- what `table_number` gives: the number, and where it is 0 what acceptance gives
+pub record Checked (job : Job) (places : List ℕ) (number : ℕ) (racking : List ℕ) : Type 0 where
+  pub number-is : number ≡ tableNumber job places
+  pub opened : number ≡ 0 → Open job places racking
+
+-- the number of a table and its cards, by a job: 2 stands between 1 and the others that its racks are refused with, then 4 to 6
+unfoldable pub cardsNumber : Job → ℕ → List ℕ → List ℕ → ℕ
+cardsNumber job b places cards =
+    first
+    ((eqb (job .refused) 1, 1)
+    ∷ (badBytes b, 2)
+    ∷ refusal (job .refused)
+    ∷ (badPlaces (racksOf job) places or badCards (racksOf job) b cards, 4)
+    ∷ entryChecks (racksOf job) places)
+
+-- what `cards_number` gives: the number, and where it is 0 what acceptance gives
+pub record CardsChecked (job : Job) (b : ℕ) (places cards : List ℕ) (number : ℕ) (racking : List ℕ) : Type 0 where
+  pub number-is : number ≡ cardsNumber job b places cards
+  pub opened : number ≡ 0 → OpenCards job b places cards racking
+
+-- the table check, by a job
+unfoldable pub checkedBy : Job → List ℕ → Answer
+checkedBy job places = answer (tableNumber job places) noCounts
