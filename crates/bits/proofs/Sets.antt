@@ -111,6 +111,18 @@ cleared-else words g v p q =
     ∙ getD-set-other words (g / 64) v _ 0 q)
     (λ z. ap (λ (l : List ℕ). getD l v 0) (cleared-some words g z) ∙ getD-set-other words (g / 64) v _ 0 q)
 
+-- where only the word of g changes, and of it only the bit of g, every other number is as it was
+other-kept : (words words′ : List ℕ) (g k : ℕ) → ((k % 64 ≡ g % 64 → ⊥) → bitOn (getD words′ (g / 64) 0) (k % 64) ≡ bitOn (getD words (g / 64) 0) (k % 64))
+    → ((v : ℕ) → (v ≡ 64 → ⊥) → (v ≡ g / 64 → ⊥) → getD words′ v 0 ≡ getD words v 0) → k < 4096 → (k ≡ g → ⊥) → isOn words′ k ≡ isOn words k
+unfolding isOn
+other-kept words words′ g k own rest l f = elim (ℕ-discrete (k / 64) (g / 64)) [
+  | yes q ↦
+      ap (λ (v : ℕ). bitOn (getD words′ v 0) (k % 64)) q
+      ∙ own (λ r. f (same-number k g q r))
+      ∙ ap (λ (v : ℕ). bitOn (getD words v 0) (k % 64)) (sym q)
+  | no q ↦ ap (λ (x : ℕ). bitOn x (k % 64)) (rest (k / 64) (λ r. omega arith) q)
+]
+
 -- a number marked is in the set
 pub marked-here : (words : List ℕ) (g : ℕ) → length words ≡ 66 → g < 4096 → isOn (marked words g) g ≡ true
 unfolding isOn
@@ -118,15 +130,10 @@ marked-here words g e h = ap (λ (x : ℕ). bitOn x (g % 64)) (marked-own words 
 
 -- and every other as it was
 pub marked-other : (words : List ℕ) (g k : ℕ) → length words ≡ 66 → g < 4096 → k < 4096 → (k ≡ g → ⊥) → isOn (marked words g) k ≡ isOn words k
-unfolding isOn
-marked-other words g k e h l f = elim (ℕ-discrete (k / 64) (g / 64)) [
-  | yes q ↦
-      ap (λ (v : ℕ). bitOn (getD (marked words g) v 0) (k % 64)) q
-      ∙ ap (λ (x : ℕ). bitOn x (k % 64)) (marked-own words g e h)
-      ∙ turned-on-other (getD words (g / 64) 0) (g % 64) (k % 64) (λ r. f (same-number k g q r))
-      ∙ ap (λ (v : ℕ). bitOn (getD words v 0) (k % 64)) (sym q)
-  | no q ↦ ap (λ (x : ℕ). bitOn x (k % 64)) (marked-else words g (k / 64) (λ r. omega arith) q)
-]
+marked-other words g k e h l f =
+    other-kept words (marked words g) g k
+    (λ r. ap (λ (x : ℕ). bitOn x (k % 64)) (marked-own words g e h) ∙ turned-on-other (getD words (g / 64) 0) (g % 64) (k % 64) r)
+    (marked-else words g) l f
 
 -- a number cleared is not in the set
 pub cleared-here : (words : List ℕ) (g : ℕ) → length words ≡ 66 → g < 4096 → isOn (cleared words g) g ≡ false
@@ -135,15 +142,11 @@ cleared-here words g e h = ap (λ (x : ℕ). bitOn x (g % 64)) (cleared-own word
 
 -- and every other as it was
 pub cleared-other : (words : List ℕ) (g k : ℕ) → length words ≡ 66 → g < 4096 → k < 4096 → (k ≡ g → ⊥) → isOn (cleared words g) k ≡ isOn words k
-unfolding isOn wordOff
-cleared-other words g k e h l f = elim (ℕ-discrete (k / 64) (g / 64)) [
-  | yes q ↦
-      ap (λ (v : ℕ). bitOn (getD (cleared words g) v 0) (k % 64)) q
-      ∙ ap (λ (x : ℕ). bitOn x (k % 64)) (cleared-own words g e h)
-      ∙ turned-off-other (getD words (g / 64) 0) (g % 64) (k % 64) (λ r. f (same-number k g q r))
-      ∙ ap (λ (v : ℕ). bitOn (getD words v 0) (k % 64)) (sym q)
-  | no q ↦ ap (λ (x : ℕ). bitOn x (k % 64)) (cleared-else words g (k / 64) (λ r. omega arith) q)
-]
+unfolding wordOff
+cleared-other words g k e h l f =
+    other-kept words (cleared words g) g k
+    (λ r. ap (λ (x : ℕ). bitOn x (k % 64)) (cleared-own words g e h) ∙ turned-off-other (getD words (g / 64) 0) (g % 64) (k % 64) r)
+    (cleared-else words g) l f
 
 -- the last word is right after a number is marked
 pub topped-marked : {words : List ℕ} → Topped words → (g : ℕ) → g < 4096 → Topped (marked words g)

@@ -6,7 +6,8 @@ ghost use Rattle.racks.specs.Racks.{slots};
 ghost use Rattle.racks.specs.parts.Legal.{Spared};
 ghost use Rattle.racks.specs.Job.{racksOf, FitSpared};
 ghost use Rattle.tables.specs.parts.Tables.{Open};
-ghost use Rattle.queues.specs.parts.Line.{roomOf};
+ghost use Rattle.bits.specs.parts.Bits.{WORDS};
+ghost use Rattle.queues.specs.parts.Line.{roomOf, LINE};
 ghost use Rattle.moves.specs.parts.Carrying.{pairsIn};
 ghost use Rattle.moves.specs.Moves.{held, outcomeOf};
 ghost use Rattle.budgets.specs.parts.Engine.{Notable, AllNotable, MoveNoted, Noted, Runnable, PhaseRun, Going, Made};
@@ -22,11 +23,11 @@ use racks::Job;
 fn note_move(
     from: usize,
     to: usize,
-    racking: &[u8; 4096],
-    line: &mut [u16; 4416],
-    bits: &mut [u64; 66],
+    racking: &[u8; Job::MAX_SLOTS],
+    line: &mut [u16; line::LINE],
+    bits: &mut [u64; bits::parts::WORDS],
 )
-    requires { ⌜ Notable (now racking) (from, to) × (length (now line) ≡ 4416) × (length (now bits) ≡ 66) × (roomOf (now line) (getD (now racking) from 0) < 65535) ⌝ }
+    requires { ⌜ Notable (now racking) (from, to) × (length (now line) ≡ LINE) × (length (now bits) ≡ WORDS) × (roomOf (now line) (getD (now racking) from 0) < 65535) ⌝ }
     ensures { λ _. ⌜ MoveNoted (now (racking .entry)) (from, to) (now (line .entry)) (now (bits .entry)) (now (line .exit)) (now (bits .exit)) ⌝ }
 {
     bits::parts::mark(bits, from);
@@ -40,9 +41,9 @@ pub fn note_moves(
     log: &[u16],
     low: usize,
     high: usize,
-    racking: &[u8; 4096],
-    line: &mut [u16; 4416],
-    bits: &mut [u64; 66],
+    racking: &[u8; Job::MAX_SLOTS],
+    line: &mut [u16; line::LINE],
+    bits: &mut [u64; bits::parts::WORDS],
 )
     requires { ⌜ (low ≤ high) × (high ≤ length (now log)) × AllNotable (now racking) (pairsIn (now log) low high) (now line) (now bits) ⌝ }
     ensures { λ _. ⌜ Noted (now (racking .entry)) (pairsIn (now (log .entry)) low high) (now (line .entry)) (now (bits .entry)) (now (line .exit)) (now (bits .exit)) ⌝ }
@@ -61,9 +62,9 @@ pub fn run_phase(
     tally: Tally,
     places: &mut [u16],
     cards: &mut [u8],
-    racking: &[u8; 4096],
-    line: &mut [u16; 4416],
-    bits: &mut [u64; 66],
+    racking: &[u8; Job::MAX_SLOTS],
+    line: &mut [u16; line::LINE],
+    bits: &mut [u64; bits::parts::WORDS],
     log: &mut [u16],
 ) -> Tally
     requires { ⌜ Runnable b k tally (held (now places) (now cards)) (now racking) (now line) (now bits) (now log) ⌝ }
@@ -86,9 +87,9 @@ pub fn run_moves(
     k: usize,
     places: &mut [u16],
     cards: &mut [u8],
-    racking: &[u8; 4096],
-    line: &mut [u16; 4416],
-    bits: &mut [u64; 66],
+    racking: &[u8; Job::MAX_SLOTS],
+    line: &mut [u16; line::LINE],
+    bits: &mut [u64; bits::parts::WORDS],
     log: &mut [u16],
 ) -> Tally
     requires { ⌜ Going job b (held (now places) (now cards)) (now racking) (now line) (now bits) (now log) ⌝ }
@@ -96,7 +97,7 @@ pub fn run_moves(
 {
     let mut tally = Tally::none();
     while tally.moves < k {
-        if bits[65] == 0 {
+        if bits[line::WAITING] == 0 {
             return tally;
         }
         tally = run_phase(b, k, tally, places, cards, racking, line, bits, log);
@@ -111,14 +112,14 @@ pub fn move_cards(
     k: usize,
     places: &mut [u16],
     cards: &mut [u8],
-    racking: &[u8; 4096],
+    racking: &[u8; Job::MAX_SLOTS],
 ) -> Tally
     requires { ⌜ Open job (now places) (now racking) × Spared (racksOf job) × (length (now cards) ≡ slots (racksOf job) * b) ⌝ }
     ensures { λ r. ⌜ Made (racksOf job) b k (held (now (places .entry)) (now (cards .entry))) (held (now (places .exit)) (now (cards .exit))) r ⌝ }
 {
-    let mut line = [0u16; 4416];
-    let mut bits = [0u64; 66];
-    let mut log = [0u16; 8192];
+    let mut line = [0u16; line::LINE];
+    let mut bits = [0u64; bits::parts::WORDS];
+    let mut log = [0u16; Job::PAIRS];
     arrivals::queue_up(job, places, racking, &mut line, &mut bits);
     run_moves(
         job,

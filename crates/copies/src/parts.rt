@@ -25,7 +25,7 @@ pub fn wide(x: u16) -> usize
 
 // Whether the card in slot g is away, by the racking. A free slot is on its own rack: so there is no branch, which could
 // not be foretold where free and taken slots alternate at random.
-pub fn is_away(racking: &[u8; 4096], places: &[u16], g: usize) -> bool
+pub fn is_away(racking: &[u8; Job::MAX_SLOTS], places: &[u16], g: usize) -> bool
     requires { ⌜ Chained (now places) × (g < length (now places)) ⌝ }
     ensures { λ r. ⌜ r ≡ awayBy (now (racking .entry)) (now (places .entry)) g ⌝ }
 {
@@ -44,7 +44,7 @@ fn either(a: bool, b: bool) -> bool
 }
 
 // Whether some card is away.
-pub fn some_away(racking: &[u8; 4096], places: &[u16]) -> bool
+pub fn some_away(racking: &[u8; Job::MAX_SLOTS], places: &[u16]) -> bool
     requires { ⌜ Chained (now places) ⌝ }
     ensures { λ r. ⌜ r ≡ someAwayBy (now (racking .entry)) (now (places .entry)) ⌝ }
 {
@@ -78,9 +78,9 @@ pub fn list_copies(places: &[u16], list: &mut [u16], tally: Tally) -> Tally
     ensures counts { λ r. ⌜ r ≡ plusCopies (length (copyList (now (places .entry)))) tally ⌝ }
     ensures copies { λ _. ⌜ now (list .exit) ≡ putCopies (now (list .entry)) 0 (copyList (now (places .entry))) ⌝ }
 {
-    let mut sources = [Job::FREE; 4097];
+    let mut sources = [Job::FREE; Job::SOURCES];
     walks::fill_sources(places, &mut sources);
-    let mut seen = [0u8; 4096];
+    let mut seen = [0u8; Job::MAX_SLOTS];
     let count = lists::write_factors(places, &sources, &mut seen, list);
     add_copies(tally, count)
 }
@@ -90,9 +90,9 @@ pub fn list_counted(places: &[u16], lent: &mut [u16]) -> Answer
     requires { ⌜ Chained (now places) ⌝ }
     ensures { λ r. ⌜ listedOf r (now (lent .exit)) ≡ listedHere (now (places .entry)) (now (lent .entry)) ⌝ }
 {
-    let mut sources = [Job::FREE; 4097];
+    let mut sources = [Job::FREE; Job::SOURCES];
     walks::fill_sources(places, &mut sources);
-    let mut seen = [0u8; 4096];
+    let mut seen = [0u8; Job::MAX_SLOTS];
     if lists::has_room(places, &sources, &mut seen, lent.len()) {
         let written = lists::write_factors(places, &sources, &mut seen, lent);
         let none = Tally::none();

@@ -2,6 +2,7 @@
 ghost use mathlib.Core.Path.{_≡_};
 ghost use Prim.Native.Nat.{_<_, _≤_};
 ghost use lib.ListN.{length, take};
+ghost use Rattle.racks.specs.Limits.{RACKS, SLOTS};
 ghost use Rattle.racks.specs.Job.{racksOf, jobOf, Sound};
 ghost use Rattle.racks.specs.Racks.{ofCaps};
 ghost use Rattle.tables.specs.parts.Tables.{Marked};
@@ -100,7 +101,7 @@ fn room_for(total: usize) -> usize
 
 // The m_p, n of them, to the front of a list of the reader's own.
 fn read_caps(file: &[u8], at: usize, n: usize, caps: &mut [u16; Job::MAX_RACKS]) -> Taken
-    requires { ⌜ (n ≤ 64) × (length (now caps) ≡ 64) ⌝ }
+    requires { ⌜ (n ≤ RACKS) × (length (now caps) ≡ RACKS) ⌝ }
     ensures { λ r. ⌜ CapsRead (now (file .entry)) at n r (now (caps .exit)) ⌝ }
 {
     let mut place = at;
@@ -145,7 +146,7 @@ fn no_head(got: Numeral) -> Head
 
 // N, B and the m_p.
 fn read_head(file: &[u8], caps: &mut [u16; Job::MAX_RACKS]) -> Head
-    requires { ⌜ length (now caps) ≡ 64 ⌝ }
+    requires { ⌜ length (now caps) ≡ RACKS ⌝ }
     ensures { λ r. ⌜ HeadRead (now (file .entry)) r (now (caps .exit)) ⌝ }
 {
     let first = bounded_numeral(file, 0, 1, Job::MAX_RACKS, 1);
@@ -175,7 +176,7 @@ fn job_of_first(caps: &[u16], n: usize) -> Job
 
 // An entry as the places table has it: 0 free, else destination + 1.
 fn entry_of(x: usize) -> u16
-    requires { ⌜ x ≤ 4096 ⌝ }
+    requires { ⌜ x ≤ SLOTS ⌝ }
     ensures { λ r. ⌜ r ≡ entryOf x ⌝ }
 {
     if x == 0 {
@@ -192,7 +193,7 @@ fn read_entries(
     marks: &mut [u8; Job::MAX_SLOTS],
     places: &mut [u16; Job::MAX_SLOTS],
 ) -> Taken
-    requires { ⌜ Sound job × Marked (racksOf job) (now marks) × (length (now places) ≡ 4096) ⌝ }
+    requires { ⌜ Sound job × Marked (racksOf job) (now marks) × (length (now places) ≡ SLOTS) ⌝ }
     ensures { λ r. ⌜ EntriesRead (racksOf job) (now (file .entry)) at r (now (places .exit)) ⌝ }
 {
     let mut place = at;
@@ -227,7 +228,7 @@ fn read_entries(
 
 // The S entries, with the marks made.
 fn read_table(job: Job, file: &[u8], at: usize, places: &mut [u16; Job::MAX_SLOTS]) -> Taken
-    requires { ⌜ Sound job × (length (now places) ≡ 4096) ⌝ }
+    requires { ⌜ Sound job × (length (now places) ≡ SLOTS) ⌝ }
     ensures { λ r. ⌜ EntriesRead (racksOf job) (now (file .entry)) at r (now (places .exit)) ⌝ }
 {
     let mut marks = [0u8; Job::MAX_SLOTS];
@@ -279,7 +280,7 @@ pub fn parse(
     caps: &mut [u16; Job::MAX_RACKS],
     places: &mut [u16; Job::MAX_SLOTS],
 ) -> FileAnswer
-    requires { ⌜ (length (now caps) ≡ 64) × (length (now places) ≡ 4096) ⌝ }
+    requires { ⌜ (length (now caps) ≡ RACKS) × (length (now places) ≡ SLOTS) ⌝ }
     ensures { λ r. ⌜ Parsed (now (file .entry)) r (now (caps .exit)) (now (places .exit)) ⌝ }
 {
     let head = read_head(file, caps);

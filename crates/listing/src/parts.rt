@@ -5,6 +5,7 @@ ghost use lib.ListN.{length, take};
 ghost use Rattle.texts.specs.parts.Writing.{Wrote};
 ghost use Rattle.listing.specs.Listing.{ENOUGH, listing, printedOf, handedOver};
 use answers::Answer;
+use racks::Job;
 use runtexts::parts::jobs;
 use texts::TextAnswer;
 use texts::parts::lines;
@@ -18,8 +19,8 @@ pub fn put_listing(out: &mut [u8], file: &[u8]) -> usize
     if TextAnswer::FILE < file.len() {
         return lines::put_refused(out, 0, 18);
     }
-    let mut caps = [0u16; 64];
-    let mut places = [0u16; 4096];
+    let mut caps = [0u16; Job::MAX_RACKS];
+    let mut places = [0u16; Job::MAX_SLOTS];
     let found = jobfile::parts::parse(file, &mut caps, &mut places);
     let number = found.answer.number;
     if number != 0 {

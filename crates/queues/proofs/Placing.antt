@@ -82,23 +82,3 @@ placed-more racks places p low rooms line line′ l el er e f = rw e (
       lows-none = λ q m n. placed-else line k p low rooms l (4352 + q) (λ j. omega arith) (λ j. omega arith) (λ j. omega arith) (λ j. omega arith) ∙ f .lows-none q (omega arith) n;
       long = placed-long line k p low rooms l;
     })
-
--- rack p of a job, which begins at slot low: where it ends
-pub record Bounds (job : Job) (p low : ℕ) : Type 0 where
-  pub rack : p < 64
-  pub one : p < length (racksOf job)
-  pub ends : getD (job .ends) p 0 ≡ base (racksOf job) (suc p)
-  pub up : low ≤ getD (job .ends) p 0
-  pub within : getD (job .ends) p 0 ≤ slots (racksOf job)
-
-pub job-bounds : (job : Job) → Sound job → {p low : ℕ} → p < job .racks → low ≡ base (racksOf job) p → Bounds job p low
-job-bounds job s {p} {low} l e =
-    let m : p < length (racksOf job) = omega (arith, sound-racks job s) in
-    let x : getD (job .ends) p 0 ≡ base (racksOf job) (suc p) = sound-ends job s p m in
-    record {
-      rack = omega (arith, sound-count job s);
-      one = m;
-      ends = x;
-      up = omega (arith, x, base-mono (racksOf job) p (suc p) (omega arith));
-      within = omega (arith, x, end-le (racksOf job) p m);
-    }

@@ -2,6 +2,7 @@
 ghost use mathlib.Core.Path.{_≡_};
 ghost use Prim.Native.Nat.{_*_, _≤_};
 ghost use lib.ListN.{length};
+ghost use Rattle.racks.specs.Limits.{BYTES};
 ghost use Rattle.racks.specs.Racks.{slots};
 ghost use Rattle.racks.specs.parts.Legal.{Spared};
 ghost use Rattle.racks.specs.Job.{racksOf, FitSpared};
@@ -12,6 +13,7 @@ ghost use Rattle.runs.specs.parts.Ran.{ranBy};
 use answers::Answer;
 use answers::Tally;
 use queues::parts::arrivals;
+use queues::parts::line;
 use racks::Job;
 
 pub mod paying;
@@ -23,15 +25,15 @@ pub fn make_phases(
     b: usize,
     places: &mut [u16],
     cards: &mut [u8],
-    racking: &[u8; 4096],
+    racking: &[u8; Job::MAX_SLOTS],
     log: &mut [u16],
 ) -> Tally
     requires { ⌜ Open job (now places) (now racking) × Spared (racksOf job) × (length (now cards) ≡ slots (racksOf job) * b) × (LOG ≤ length (now log)) ⌝ }
     ensures { λ r. ⌜ PhasesMade (racksOf job) b (held (now (places .entry)) (now (cards .entry))) (held (now (places .exit)) (now (cards .exit))) r (now (log .exit)) ⌝ }
 {
-    let mut line = [0u16; 4416];
-    let mut bits = [0u64; 66];
-    let mut owes = [0u16; 4096];
+    let mut line = [0u16; line::LINE];
+    let mut bits = [0u64; bits::parts::WORDS];
+    let mut owes = [0u16; Job::CELLS];
     planner::parts::owed::count_owed(job, places, racking, &mut owes);
     arrivals::queue_up(job, places, racking, &mut line, &mut bits);
     let mut awaits = owes;
@@ -55,12 +57,12 @@ pub fn run_cards(
     b: usize,
     places: &mut [u16],
     cards: &mut [u8],
-    racking: &[u8; 4096],
+    racking: &[u8; Job::MAX_SLOTS],
 ) -> Tally
-    requires { ⌜ Open job (now places) (now racking) × Spared (racksOf job) × (length (now cards) ≡ slots (racksOf job) * b) × (b ≤ 256) ⌝ }
+    requires { ⌜ Open job (now places) (now racking) × Spared (racksOf job) × (length (now cards) ≡ slots (racksOf job) * b) × (b ≤ BYTES) ⌝ }
     ensures { λ r. ⌜ Ran (racksOf job) b (held (now (places .entry)) (now (cards .entry))) (held (now (places .exit)) (now (cards .exit))) r ⌝ }
 {
-    let mut log = [0u16; 12288];
+    let mut log = [0u16; rounds::LOG];
     let made = make_phases(job, b, places, cards, racking, &mut log);
     shuffle::parts::settle(b, places, cards, made)
 }

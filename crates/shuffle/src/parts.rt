@@ -2,6 +2,7 @@
 ghost use mathlib.Core.Path.{_≡_};
 ghost use Prim.Native.Nat.{_+_, _*_, _≤_, _<_};
 ghost use lib.ListN.{length};
+ghost use Rattle.racks.specs.Limits.{BYTES, SLOTS};
 ghost use Rattle.racks.specs.Job.{Fit};
 ghost use Rattle.moves.specs.Moves.{held, outcomeOf};
 ghost use Rattle.copies.specs.parts.Chains.{Chained};
@@ -17,14 +18,14 @@ pub mod hands;
 // Every factor brought home, by its lowest slot; the tally with the copies made.
 pub fn bring_factors(
     places: &[u16],
-    sources: &[u16; 4097],
-    seen: &mut [u8; 4096],
+    sources: &[u16; Job::SOURCES],
+    seen: &mut [u8; Job::MAX_SLOTS],
     cards: &mut [u8],
-    hand: &mut [u8; 256],
+    hand: &mut [u8; Job::MAX_BYTES],
     b: usize,
     tally: Tally,
 ) -> Tally
-    requires { ⌜ Chained (now places) × Sources (now places) (now sources) × Unmarked 1 (now seen) × (b ≤ 256) × (length (now cards) ≡ length (now places) * b) × (length (now hand) ≡ 256) × (tally .copies ≡ 0) ⌝ }
+    requires { ⌜ Chained (now places) × Sources (now places) (now sources) × Unmarked 1 (now seen) × (b ≤ BYTES) × (length (now cards) ≡ length (now places) * b) × (length (now hand) ≡ BYTES) × (tally .copies ≡ 0) ⌝ }
     ensures { λ r. ⌜ AllBrought b (now (places .entry)) (now (cards .entry)) (now (hand .entry)) tally r (now (cards .exit)) ⌝ }
 {
     let mut sum = tally;
@@ -39,7 +40,7 @@ pub fn bring_factors(
 
 // Slot d's entry at the end: it names itself where a card was bound for it, else it is free.
 pub fn entry_by(source: u16, d: usize) -> u16
-    requires { ⌜ d < 4096 ⌝ }
+    requires { ⌜ d < SLOTS ⌝ }
     ensures { λ r. ⌜ r ≡ entryBy source d ⌝ }
 {
     if source == Job::FREE {
@@ -52,12 +53,12 @@ pub fn entry_by(source: u16, d: usize) -> u16
 // could not be foretold where free and taken slots alternate at random.
 pub fn settle_slot(
     places: &mut [u16],
-    frees: &mut [u16; 4096],
+    frees: &mut [u16; Job::MAX_SLOTS],
     d: usize,
     n: usize,
     source: u16,
 ) -> usize
-    requires { ⌜ (d < length (now places)) × (d < 4096) × (n ≤ d) × (length (now frees) ≡ 4096) ⌝ }
+    requires { ⌜ (d < length (now places)) × (d < SLOTS) × (n ≤ d) × (length (now frees) ≡ SLOTS) ⌝ }
     ensures { λ r. ⌜ SlotSettled source d n (now (places .entry)) (now (frees .entry)) r (now (places .exit)) (now (frees .exit)) ⌝ }
 {
     places[d] = entry_by(source, d);
@@ -66,8 +67,12 @@ pub fn settle_slot(
 }
 
 // The new table, and the slots that are free in it from the front of `frees`; how many they are.
-pub fn settle_table(sources: &[u16; 4097], places: &mut [u16], frees: &mut [u16; 4096]) -> usize
-    requires { ⌜ Chained (now places) × Sources (now places) (now sources) × (length (now frees) ≡ 4096) ⌝ }
+pub fn settle_table(
+    sources: &[u16; Job::SOURCES],
+    places: &mut [u16],
+    frees: &mut [u16; Job::MAX_SLOTS],
+) -> usize
+    requires { ⌜ Chained (now places) × Sources (now places) (now sources) × (length (now frees) ≡ SLOTS) ⌝ }
     ensures { λ r. ⌜ TableSettled (now (places .entry)) (now (places .exit)) (now (frees .exit)) r ⌝ }
 {
     let mut n: usize = 0;
@@ -80,8 +85,8 @@ pub fn settle_table(sources: &[u16; 4097], places: &mut [u16], frees: &mut [u16;
 }
 
 // The slots that are listed, zeroed.
-pub fn zero_slots(frees: &[u16; 4096], n: usize, cards: &mut [u8], b: usize, slots: usize)
-    requires { ⌜ AllBelow slots n (now frees) × (n ≤ 4096) × (length (now cards) ≡ slots * b) ⌝ }
+pub fn zero_slots(frees: &[u16; Job::MAX_SLOTS], n: usize, cards: &mut [u8], b: usize, slots: usize)
+    requires { ⌜ AllBelow slots n (now frees) × (n ≤ SLOTS) × (length (now cards) ≡ slots * b) ⌝ }
     ensures { λ _. ⌜ Zeroed b (now (frees .entry)) n (now (cards .entry)) (now (cards .exit)) ⌝ }
 {
     let mut i: usize = 0;
@@ -93,24 +98,24 @@ pub fn zero_slots(frees: &[u16; 4096], n: usize, cards: &mut [u8], b: usize, slo
 }
 
 // The new table, and every free slot zeroed.
-pub fn settle_slots(sources: &[u16; 4097], places: &mut [u16], cards: &mut [u8], b: usize)
+pub fn settle_slots(sources: &[u16; Job::SOURCES], places: &mut [u16], cards: &mut [u8], b: usize)
     requires { ⌜ Chained (now places) × Sources (now places) (now sources) × (length (now cards) ≡ length (now places) * b) ⌝ }
     ensures { λ _. ⌜ AllSettled b (now (places .entry)) (now (cards .entry)) (now (places .exit)) (now (cards .exit)) ⌝ }
 {
-    let mut frees = [0u16; 4096];
+    let mut frees = [0u16; Job::MAX_SLOTS];
     let n = settle_table(sources, places, &mut frees);
     zero_slots(&frees, n, cards, b, places.len());
 }
 
 // The shuffle of an accepted table with nothing away; the tally with the copies made.
 pub fn settle(b: usize, places: &mut [u16], cards: &mut [u8], tally: Tally) -> Tally
-    requires { ⌜ Chained (now places) × (b ≤ 256) × (length (now cards) ≡ length (now places) * b) × (tally .copies ≡ 0) ⌝ }
+    requires { ⌜ Chained (now places) × (b ≤ BYTES) × (length (now cards) ≡ length (now places) * b) × (tally .copies ≡ 0) ⌝ }
     ensures { λ r. ⌜ Shuffled b (now (places .entry)) (now (cards .entry)) tally r (now (places .exit)) (now (cards .exit)) ⌝ }
 {
-    let mut sources = [Job::FREE; 4097];
+    let mut sources = [Job::FREE; Job::SOURCES];
     copies::parts::walks::fill_sources(places, &mut sources);
-    let mut seen = [0u8; 4096];
-    let mut hand = [0u8; 256];
+    let mut seen = [0u8; Job::MAX_SLOTS];
+    let mut hand = [0u8; Job::MAX_BYTES];
     let counted = bring_factors(places, &sources, &mut seen, cards, &mut hand, b, tally);
     settle_slots(&sources, places, cards, b);
     counted

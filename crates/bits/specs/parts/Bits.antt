@@ -9,6 +9,18 @@ use lib.Bits.{bitAnd, bitOr, bitXor}
 use lib.ListN.{length, getD, set}
 use Rattle.counting.specs.Tests.{pick}
 
+-- the numbers of a set are below this
+abbrev pub NUMBERS : ℕ
+NUMBERS = 4096
+
+-- how many words a set has: one for each 64 numbers, one with a bit for each of those that is not empty, and one more, which is its user's
+abbrev pub WORDS : ℕ
+WORDS = 66
+
+-- where the word stands that has a bit for each word that is not empty
+abbrev pub TOP : ℕ
+TOP = 64
+
 -- bit b of a word is on
 unfoldable pub bitOn : ℕ → ℕ → Bool
 bitOn word b = eqb (word / 2 ^ b % 2) 1
@@ -52,7 +64,7 @@ filled words w word =
 
 -- 64 words, a 65th in which a word's bit is on exactly where the word has one, and a 66th
 pub record Topped (words : List ℕ) : Type 0 where
-  pub long : length words ≡ 66
+  pub long : length words ≡ WORDS
   pub small : (w : ℕ) → getD words w 0 < 2 ^ 64
   pub tops : (w : ℕ) → w < 64 → bitOn (getD words 64 0) w ≡ not (eqb (getD words w 0) 0)
 
@@ -65,7 +77,7 @@ pub record Next (test : ℕ → Bool) (low high r : ℕ) : Type 0 where
 
 -- a walk over a set has come to t: bit k of rest is on where number at + k, of at's word and not before t, is in the set; none from t up to at is
 pub record Walking (words : List ℕ) (t at rest : ℕ) : Type 0 where
-  pub few : at ≤ 4096
+  pub few : at ≤ NUMBERS
   pub within : t ≤ (at / 64 + 1) * 64
   pub passed : (k : ℕ) → t ≤ k → k < at → isOn words k ≡ false
   pub gone : (k : ℕ) → at + k < t → bitOn rest k ≡ false
@@ -76,7 +88,7 @@ pub record Walking (words : List ℕ) (t at rest : ℕ) : Type 0 where
 pub record Later (words : List ℕ) (at : ℕ) : Type 0 where
   pub k : ℕ
   pub after : (at / 64 + 1) * 64 ≤ k
-  pub within : k < 4096
+  pub within : k < NUMBERS
   pub on : isOn words k ≡ true
 
 -- a walk can go on: something of the word is left, or a later one has a number

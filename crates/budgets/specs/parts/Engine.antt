@@ -6,6 +6,7 @@ use Prim.Native.Nat.{ℕ, _+_, _*_, _-_, _≤_, _<_, min}
 use lib.ListN.{length, getD, take}
 use Rattle.counting.specs.Lists.{Pair}
 use Rattle.counting.specs.Every.{All}
+use Rattle.racks.specs.Limits.{PAIRS, RACKS, SLOTS}
 use Rattle.racks.specs.Racks.{Rack, slots}
 use Rattle.racks.specs.Table.{aways}
 use Rattle.racks.specs.parts.Legal.{Spared}
@@ -17,8 +18,8 @@ use Rattle.tables.specs.parts.Tables.{Open}
 use Rattle.moves.specs.Moves.{Held, carried}
 use Rattle.moves.specs.Phases.{budget}
 use Rattle.moves.specs.parts.Carrying.{AllSlots, Carried}
-use Rattle.bits.specs.parts.Bits.{marked, cleared}
-use Rattle.queues.specs.parts.Line.{ROOMS, roomOf}
+use Rattle.bits.specs.parts.Bits.{marked, cleared, WORDS}
+use Rattle.queues.specs.parts.Line.{ROOMS, roomOf, LINE}
 use Rattle.queues.specs.parts.Queued.{oneMore}
 use Rattle.queues.specs.parts.Ready.{Started}
 use Rattle.queues.specs.parts.Queues.{rowsOf, queuedPlan, Plannable, PhasePlanned}
@@ -43,16 +44,16 @@ notedLine racking (m ∷ ms) line = notedLine racking ms (noteLine racking m lin
 
 -- a move that can be noted: its ends have bits, and its source is on one of 64 racks
 pub record Notable (racking : List ℕ) (m : Pair) : Type 0 where
-  pub from-lt : m .0 < 4096
-  pub to-lt : m .1 < 4096
-  pub racked : getD racking (m .0) 0 < 64
+  pub from-lt : m .0 < SLOTS
+  pub to-lt : m .1 < SLOTS
+  pub racked : getD racking (m .0) 0 < RACKS
 
 -- moves that can be noted: and each rack's room has place for as many more
 pub record AllNotable (racking : List ℕ) (ms : List Pair) (line bits : List ℕ) : Type 0 where
   pub moves : All (Notable racking) ms
-  pub room : (p : ℕ) → p < 64 → roomOf line p + length ms < 65536
-  pub line-long : length line ≡ 4416
-  pub bits-long : length bits ≡ 66
+  pub room : (p : ℕ) → p < RACKS → roomOf line p + length ms < 65536
+  pub line-long : length line ≡ LINE
+  pub bits-long : length bits ≡ WORDS
 
 -- a move noted
 pub record MoveNoted (racking : List ℕ) (m : Pair) (line bits line′ bits′ : List ℕ) : Type 0 where
@@ -67,13 +68,13 @@ pub record Noted (racking : List ℕ) (ms : List Pair) (line bits line′ bits�
 -- what a phase needs
 pub record Runnable (b k : ℕ) (t : Tally) (h : Held) (racking line bits log : List ℕ) : Type 0 where
   pub within : t .moves ≤ k
-  pub few : t .moves ≤ 4096
+  pub few : t .moves ≤ SLOTS
   pub plannable : Plannable line bits log (2 * t .moves)
-  pub small : length (h .places) ≤ 4096
+  pub small : length (h .places) ≤ SLOTS
   pub sized : length (h .places) * b ≡ length (h .cards)
-  pub plan-few : length (queuedPlan 64 (rowsOf line bits)) ≤ 4096
-  pub slots : AllSlots (length (h .places)) (queuedPlan 64 (rowsOf line bits))
-  pub racked : (g : ℕ) → g < length (h .places) → getD racking g 0 < 64
+  pub plan-few : length (queuedPlan RACKS (rowsOf line bits)) ≤ SLOTS
+  pub slots : AllSlots (length (h .places)) (queuedPlan RACKS (rowsOf line bits))
+  pub racked : (g : ℕ) → g < length (h .places) → getD racking g 0 < RACKS
 
 -- a phase run: its plan is written behind what the log has, the first pairs of it, as many as are left of k, are carried, added and noted
 pub record PhaseRun (b k : ℕ) (t : Tally) (h : Held) (racking line bits log : List ℕ) (t′ : Tally) (h′ : Held) (line′ bits′ log′ : List ℕ) : Type 0 where
@@ -81,8 +82,8 @@ pub record PhaseRun (b k : ℕ) (t : Tally) (h : Held) (racking line bits log : 
   pub bits₁ : List ℕ
   pub count : ℕ
   pub planned : PhasePlanned line bits log (2 * t .moves) line₁ bits₁ log′ count
-  pub done : Carried b (take (k - t .moves) (queuedPlan 64 (rowsOf line bits))) h t h′ t′
-  pub noted-are : Noted racking (take (k - t .moves) (queuedPlan 64 (rowsOf line bits))) line₁ bits₁ line′ bits′
+  pub done : Carried b (take (k - t .moves) (queuedPlan RACKS (rowsOf line bits))) h t h′ t′
+  pub noted-are : Noted racking (take (k - t .moves) (queuedPlan RACKS (rowsOf line bits))) line₁ bits₁ line′ bits′
 
 -- what the engine needs of a job: a legal table with its cards, and rows that fit it
 pub record Going (job : Job) (b : ℕ) (h : Held) (racking line bits log : List ℕ) : Type 0 where
@@ -90,7 +91,7 @@ pub record Going (job : Job) (b : ℕ) (h : Held) (racking line bits log : List 
   pub spared : Spared (racksOf job)
   pub started : Started (racksOf job) (h .places) line bits
   pub cards-long : length (h .cards) ≡ slots (racksOf job) * b
-  pub room : 8192 ≤ length log
+  pub room : PAIRS ≤ length log
 
 -- moves made with an allowance of k: as many as there are cards away, but no more than k
 pub record Made (racks : List Rack) (b k : ℕ) (h h′ : Held) (t : Tally) : Type 0 where

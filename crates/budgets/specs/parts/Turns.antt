@@ -3,11 +3,13 @@ use mathlib.Core.Path.{_≡_}
 use mathlib.Core.List.{List}
 use Prim.Native.Nat.{ℕ, _+_, _-_, _*_, _≤_, _<_}
 use lib.ListN.{length}
+use Rattle.racks.specs.Limits.{PAIRS, RACKS, SLOTS}
 use Rattle.racks.specs.Racks.{Rack, slots}
 use Rattle.racks.specs.Table.{aways}
 use Rattle.racks.specs.parts.Legal.{Legal, Spared}
 use Rattle.answers.specs.declared.Tally.{Tally}
 use Rattle.tables.specs.parts.Tables.{Filled}
+use Rattle.queues.specs.parts.Line.{LINE}
 use Rattle.queues.specs.parts.Queues.{rowsOf}
 use Rattle.queues.specs.parts.Ready.{Ready}
 use Rattle.moves.specs.Moves.{Held, carried}
@@ -16,8 +18,8 @@ use Rattle.moves.specs.Phases.{budget}
 -- what does not change from turn to turn
 pub record Fixed (racks : List Rack) (racking : List ℕ) : Type 0 where
   pub spared : Spared racks
-  pub small : slots racks ≤ 4096
-  pub few : length racks ≤ 64
+  pub small : slots racks ≤ SLOTS
+  pub few : length racks ≤ RACKS
   pub filled : Filled racks racking
 
 -- some of an allowance of k moves are made since the table and the cards were h₀
@@ -25,8 +27,8 @@ pub record Turn (racks : List Rack) (b k : ℕ) (h₀ : Held) (t : Tally) (h : H
   pub within : t .moves ≤ k
   pub legal : Legal racks (h .places)
   pub cards-long : length (h .cards) ≡ slots racks * b
-  pub line-long : length line ≡ 4416
-  pub room : 8192 ≤ length log
+  pub line-long : length line ≡ LINE
+  pub room : PAIRS ≤ length log
   pub ready : t .moves < k → Ready racks (h .places) (rowsOf line bits)
   pub rest : carried b (budget racks (k - t .moves) (h .places)) h ≡ carried b (budget racks k (h₀ .places)) h₀
   pub count : t .moves + aways racks (h .places) ≡ aways racks (h₀ .places)

@@ -4,12 +4,12 @@ use mathlib.Core.Logic.{_≢_, _⊎_}
 use mathlib.Core.List.{List}
 use Prim.Native.Nat.{ℕ, _≤_, _<_}
 use lib.ListN.{length}
-use Rattle.racks.specs.Limits.{FREE, HAND}
+use Rattle.racks.specs.Limits.{FREE, HAND, SLOTS}
 use Rattle.copies.specs.Copies.{next}
 
 -- every card's destination is a slot, no two cards' the same; so cards and destinations form shifts and cycles
 pub record Chained (places : List ℕ) : Type 0 where
-  pub small : length places ≤ 4096
+  pub small : length places ≤ SLOTS
   pub below : (x : ℕ) → next places x ≢ FREE → next places x < length places
   pub once : (x y : ℕ) → next places x ≡ next places y → next places x ≢ FREE → x ≡ y
 

@@ -11,7 +11,7 @@ use Rattle.counting.specs.Tests.{pick}
 use Rattle.counting.specs.Count.{some}
 use Rattle.counting.specs.Checks.{first, refusal}
 use Rattle.counting.specs.Lists.{Pair, flat, among, last}
-use Rattle.racks.specs.Limits.{FREE, HAND}
+use Rattle.racks.specs.Limits.{FREE, HAND, SLOTS, SOURCES}
 use Rattle.racks.specs.Numbers.{someAway, tooShort}
 use Rattle.racks.specs.Job.{racksOf}
 use Rattle.racks.specs.declared.Job.{Job}
@@ -25,16 +25,16 @@ someAwayBy racking places = some (length places) (awayBy racking places)
 
 -- a table for the sources, as it is made: no card comes anywhere
 abbrev pub noSources : List ℕ
-noSources = replicate 4097 FREE
+noSources = replicate SOURCES FREE
 
 -- the table has, for each slot, the slot whose card is bound for it: the inverse of the places table; one place more, behind all slots, has what comes from free slots
 pub record Sources (places noted : List ℕ) : Type 0 where
-  pub sources : (d : ℕ) → d < 4096 → getD noted d 0 ≡ source places d
-  pub long : length noted ≡ 4097
+  pub sources : (d : ℕ) → d < SLOTS → getD noted d 0 ≡ source places d
+  pub long : length noted ≡ SOURCES
 
 -- the notes with slot g as the source of slot x; behind all slots where x is 65,535
 unfoldable pub putSource : List ℕ → ℕ → ℕ → List ℕ
-putSource noted x g = set noted (namedSlot 4096 x) g
+putSource noted x g = set noted (namedSlot SLOTS x) g
 
 -- the list with copies written from copy `at` on, two numbers each
 unfoldable pub putCopies : List ℕ → ℕ → List Pair → List ℕ
@@ -65,7 +65,7 @@ handEnd from n = pick (eqb n 0) FREE from
 -- no slot has this mark
 pub record Unmarked (mark : ℕ) (seen : List ℕ) : Type 0 where
   pub none : (v : ℕ) → getD seen v 0 ≢ mark
-  pub long : length seen ≡ 4096
+  pub long : length seen ≡ SLOTS
 
 -- these slots have the mark, all others are as they were
 pub record Marked (mark : ℕ) (slots before after : List ℕ) : Type 0 where

@@ -3,6 +3,7 @@ ghost use mathlib.Core.Path.{_≡_};
 ghost use mathlib.Core.List.{[], _∷_};
 ghost use Prim.Native.Nat.{_+_, _*_, _≤_, _<_};
 ghost use lib.ListN.{length, replicate};
+ghost use Rattle.racks.specs.Limits.{COPIES, SLOTS};
 ghost use Rattle.copies.specs.Copies.{next, shift, copies, copyList};
 ghost use Rattle.copies.specs.parts.Chains.{Chained};
 ghost use Rattle.copies.specs.parts.Writes.{Sources, putCopies, steps, Inside, walked, walkCount, Unmarked, due, Counted, Written, AllWritten, fits};
@@ -12,7 +13,7 @@ use racks::Job;
 
 // How many copies a factor has: one for each slot after the first, and two more by the hand.
 pub fn count_walk(left: usize, end: u16) -> usize
-    requires { ⌜ left ≤ 6144 ⌝ }
+    requires { ⌜ left ≤ COPIES ⌝ }
     ensures { λ r. ⌜ r ≡ walkCount left end ⌝ }
 {
     if end == Job::FREE {
@@ -24,12 +25,12 @@ pub fn count_walk(left: usize, end: u16) -> usize
 // The copies of the factor of slot k are counted, unless it is marked.
 pub fn count_slot(
     places: &[u16],
-    sources: &[u16; 4097],
-    seen: &mut [u8; 4096],
+    sources: &[u16; Job::SOURCES],
+    seen: &mut [u8; Job::MAX_SLOTS],
     k: usize,
     at: usize,
 ) -> usize
-    requires { ⌜ Chained (now places) × Sources (now places) (now sources) × (k < length (now places)) × (length (now seen) ≡ 4096) × (at + length (copies (now places) (due (now places) 1 (now seen) k)) ≤ 6144) ⌝ }
+    requires { ⌜ Chained (now places) × Sources (now places) (now sources) × (k < length (now places)) × (length (now seen) ≡ SLOTS) × (at + length (copies (now places) (due (now places) 1 (now seen) k)) ≤ COPIES) ⌝ }
     ensures { λ r. ⌜ Counted (now (places .entry)) 1 k at (now (seen .entry)) r (now (seen .exit)) ⌝ }
 {
     if seen[k] == 1 {
@@ -41,8 +42,12 @@ pub fn count_slot(
 }
 
 // How many copies the list has. The marks that are left do not hinder its writing.
-pub fn count_factors(places: &[u16], sources: &[u16; 4097], seen: &mut [u8; 4096]) -> usize
-    requires { ⌜ Chained (now places) × Sources (now places) (now sources) × (now seen ≡ replicate 4096 0) ⌝ }
+pub fn count_factors(
+    places: &[u16],
+    sources: &[u16; Job::SOURCES],
+    seen: &mut [u8; Job::MAX_SLOTS],
+) -> usize
+    requires { ⌜ Chained (now places) × Sources (now places) (now sources) × (now seen ≡ replicate SLOTS 0) ⌝ }
     ensures count { λ r. ⌜ r ≡ length (copyList (now (places .entry))) ⌝ }
     ensures marks { λ _. ⌜ Unmarked 2 (now (seen .exit)) ⌝ }
 {
@@ -57,8 +62,13 @@ pub fn count_factors(places: &[u16], sources: &[u16; 4097], seen: &mut [u8; 4096
 
 // Whether a list of so many numbers has room for the copies. No more than three numbers a slot are ever written: for a list as long as that
 // nothing has to be counted.
-pub fn has_room(places: &[u16], sources: &[u16; 4097], seen: &mut [u8; 4096], room: usize) -> bool
-    requires { ⌜ Chained (now places) × Sources (now places) (now sources) × (now seen ≡ replicate 4096 0) ⌝ }
+pub fn has_room(
+    places: &[u16],
+    sources: &[u16; Job::SOURCES],
+    seen: &mut [u8; Job::MAX_SLOTS],
+    room: usize,
+) -> bool
+    requires { ⌜ Chained (now places) × Sources (now places) (now sources) × (now seen ≡ replicate SLOTS 0) ⌝ }
     ensures room { λ r. ⌜ r ≡ fits room (now (places .entry)) ⌝ }
     ensures marks { λ _. ⌜ Unmarked 2 (now (seen .exit)) ⌝ }
 {
@@ -74,7 +84,7 @@ pub fn has_room(places: &[u16], sources: &[u16; 4097], seen: &mut [u8; 4096], ro
 
 // Copy number `at` of the list: from, and then to.
 pub fn put_copy(list: &mut [u16], at: usize, from: u16, to: u16)
-    requires { ⌜ (at < 6144) × (2 * at + 2 ≤ length (now list)) ⌝ }
+    requires { ⌜ (at < COPIES) × (2 * at + 2 ≤ length (now list)) ⌝ }
     ensures { λ _. ⌜ now (list .exit) ≡ putCopies (now (list .entry)) at ((from, to) ∷ []) ⌝ }
 {
     list[2 * at] = from;
@@ -84,7 +94,7 @@ pub fn put_copy(list: &mut [u16], at: usize, from: u16, to: u16)
 // The copies of the chain of slot x and the `left` slots after it, the last card first; how many copies the list has then. The table is
 // lent as a reference to a slice, which is one register for each level of the recursion.
 pub fn write_shift(places: &&[u16], list: &mut [u16], x: usize, left: usize, at: usize) -> usize
-    requires { ⌜ Inside (now (now places)) left x × (length (now (now places)) ≤ 4096) × (at + left ≤ 6144) × (2 * (at + left) ≤ length (now list)) ⌝ }
+    requires { ⌜ Inside (now (now places)) left x × (length (now (now places)) ≤ SLOTS) × (at + left ≤ COPIES) × (2 * (at + left) ≤ length (now list)) ⌝ }
     ensures count { λ r. ⌜ r ≡ at + left ⌝ }
     ensures copies { λ _. ⌜ now (list .exit) ≡ putCopies (now (list .entry)) at (shift x (steps (next (now (now (places .entry)))) left x)) ⌝ }
 {
@@ -106,7 +116,7 @@ pub fn write_walk(
     end: u16,
     at: usize,
 ) -> usize
-    requires { ⌜ Inside (now places) left head × (length (now places) ≤ 4096) × (at + walkCount left end ≤ 6144) × (2 * (at + walkCount left end) ≤ length (now list)) ⌝ }
+    requires { ⌜ Inside (now places) left head × (length (now places) ≤ SLOTS) × (at + walkCount left end ≤ COPIES) × (2 * (at + walkCount left end) ≤ length (now list)) ⌝ }
     ensures count { λ r. ⌜ r ≡ at + walkCount left end ⌝ }
     ensures copies { λ _. ⌜ now (list .exit) ≡ putCopies (now (list .entry)) at (walked (now (places .entry)) head left end) ⌝ }
 {
@@ -122,13 +132,13 @@ pub fn write_walk(
 // The copies of the factor of slot k are written, unless it is marked.
 pub fn write_slot(
     places: &[u16],
-    sources: &[u16; 4097],
-    seen: &mut [u8; 4096],
+    sources: &[u16; Job::SOURCES],
+    seen: &mut [u8; Job::MAX_SLOTS],
     list: &mut [u16],
     k: usize,
     at: usize,
 ) -> usize
-    requires { ⌜ Chained (now places) × Sources (now places) (now sources) × (k < length (now places)) × (length (now seen) ≡ 4096) × (at + length (copies (now places) (due (now places) 2 (now seen) k)) ≤ 6144) × (2 * (at + length (copies (now places) (due (now places) 2 (now seen) k))) ≤ length (now list)) ⌝ }
+    requires { ⌜ Chained (now places) × Sources (now places) (now sources) × (k < length (now places)) × (length (now seen) ≡ SLOTS) × (at + length (copies (now places) (due (now places) 2 (now seen) k)) ≤ COPIES) × (2 * (at + length (copies (now places) (due (now places) 2 (now seen) k))) ≤ length (now list)) ⌝ }
     ensures { λ r. ⌜ Written (now (places .entry)) 2 k at (now (list .entry)) (now (seen .entry)) r (now (list .exit)) (now (seen .exit)) ⌝ }
 {
     if seen[k] == 2 {
@@ -141,8 +151,8 @@ pub fn write_slot(
 // The copies of every factor, by its lowest slot, from the front of the lent list; how many there are.
 pub fn write_factors(
     places: &[u16],
-    sources: &[u16; 4097],
-    seen: &mut [u8; 4096],
+    sources: &[u16; Job::SOURCES],
+    seen: &mut [u8; Job::MAX_SLOTS],
     list: &mut [u16],
 ) -> usize
     requires { ⌜ Chained (now places) × Sources (now places) (now sources) × Unmarked 2 (now seen) × (2 * length (copyList (now places)) ≤ length (now list)) ⌝ }

@@ -2,6 +2,7 @@
 ghost use mathlib.Core.Path.{_≡_};
 ghost use Prim.Native.Nat.{_<_};
 ghost use lib.ListN.{length};
+ghost use Rattle.racks.specs.Limits.{SLOTS, SOURCES};
 ghost use Rattle.tables.specs.parts.Tables.{namedSlot};
 ghost use Rattle.copies.specs.parts.Chains.{Chained};
 ghost use Rattle.copies.specs.parts.Writes.{noSources, Sources, putSource, handEnd, MarkedOn, MarkedBack, Walked};
@@ -17,16 +18,16 @@ pub struct Walk {
 
 // One entry of the inverse: the card in slot g is bound for slot x. Of a free slot it is stored behind all slots, where nothing is read: so
 // there is no branch, which could not be foretold where free and taken slots alternate at random.
-pub fn put_source(sources: &mut [u16; 4097], x: u16, g: usize)
-    requires { ⌜ (length (now sources) ≡ 4097) × (g < 4096) × (namedSlot 4096 x < 4097) ⌝ }
+pub fn put_source(sources: &mut [u16; Job::SOURCES], x: u16, g: usize)
+    requires { ⌜ (length (now sources) ≡ SOURCES) × (g < SLOTS) × (namedSlot SLOTS x < SOURCES) ⌝ }
     ensures { λ _. ⌜ now (sources .exit) ≡ putSource (now (sources .entry)) x g ⌝ }
 {
-    let to = tables::parts::named_slot(x, 4096);
+    let to = tables::parts::named_slot(x, Job::MAX_SLOTS);
     sources[to] = g as u16;
 }
 
 // The inverse of the table, for each slot the slot whose card is bound for it, in one pass over a table as it was made.
-pub fn fill_sources(places: &[u16], sources: &mut [u16; 4097])
+pub fn fill_sources(places: &[u16], sources: &mut [u16; Job::SOURCES])
     requires { ⌜ Chained (now places) × (now sources ≡ noSources) ⌝ }
     ensures { λ _. ⌜ Sources (now (places .entry)) (now (sources .exit)) ⌝ }
 {
@@ -48,8 +49,8 @@ pub fn hand_end(from: u16, n: usize) -> u16
 }
 
 // Marks slot h and the slots that follow it. Where that comes to h again, the walk is that of h's factor, a cycle.
-pub fn mark_on(places: &[u16], seen: &mut [u8; 4096], mark: u8, h: usize) -> Walk
-    requires { ⌜ Chained (now places) × (h < length (now places)) × (length (now seen) ≡ 4096) ⌝ }
+pub fn mark_on(places: &[u16], seen: &mut [u8; Job::MAX_SLOTS], mark: u8, h: usize) -> Walk
+    requires { ⌜ Chained (now places) × (h < length (now places)) × (length (now seen) ≡ SLOTS) ⌝ }
     ensures { λ r. ⌜ MarkedOn (now (places .entry)) mark h (now (seen .entry)) (r .head) (r .left) (r .end) (now (seen .exit)) ⌝ }
 {
     seen[h] = mark;
@@ -87,12 +88,12 @@ pub fn mark_on(places: &[u16], seen: &mut [u8; 4096], mark: u8, h: usize) -> Wal
 // Marks the slots on the way back from slot k: where it ends, and how many they are.
 pub fn mark_back(
     places: &[u16],
-    sources: &[u16; 4097],
-    seen: &mut [u8; 4096],
+    sources: &[u16; Job::SOURCES],
+    seen: &mut [u8; Job::MAX_SLOTS],
     mark: u8,
     k: usize,
 ) -> Walk
-    requires { ⌜ Chained (now places) × Sources (now places) (now sources) × (k < length (now places)) × (length (now seen) ≡ 4096) ⌝ }
+    requires { ⌜ Chained (now places) × Sources (now places) (now sources) × (k < length (now places)) × (length (now seen) ≡ SLOTS) ⌝ }
     ensures { λ r. ⌜ MarkedBack (now (places .entry)) mark k (now (seen .entry)) (r .head) (r .left) (now (seen .exit)) ⌝ }
 {
     let mut x = k;
@@ -128,12 +129,12 @@ pub fn mark_back(
 // The walk through the factor of slot k, which is marked.
 pub fn walk_factor(
     places: &[u16],
-    sources: &[u16; 4097],
-    seen: &mut [u8; 4096],
+    sources: &[u16; Job::SOURCES],
+    seen: &mut [u8; Job::MAX_SLOTS],
     mark: u8,
     k: usize,
 ) -> Walk
-    requires { ⌜ Chained (now places) × Sources (now places) (now sources) × (k < length (now places)) × (length (now seen) ≡ 4096) ⌝ }
+    requires { ⌜ Chained (now places) × Sources (now places) (now sources) × (k < length (now places)) × (length (now seen) ≡ SLOTS) ⌝ }
     ensures { λ r. ⌜ Walked (now (places .entry)) mark k (now (seen .entry)) (r .head) (r .left) (r .end) (now (seen .exit)) ⌝ }
 {
     let on = mark_on(places, seen, mark, k);

@@ -8,7 +8,7 @@ use lib.ListN.{length, take, drop}
 use Rattle.counting.specs.Tests.{_and_, _or_, pick}
 use Rattle.counting.specs.Lists.{each}
 use Rattle.counting.specs.Checks.{Check, first, refusal, done}
-use Rattle.racks.specs.Limits.{USERS, TOTAL}
+use Rattle.racks.specs.Limits.{USERS, TOTAL, BYTES, RACKS, SLOTS}
 use Rattle.racks.specs.Racks.{Rack, ofCaps, slots}
 use Rattle.racks.specs.Numbers.{badSize, badTwice}
 use Rattle.racks.specs.Job.{rackChecks}
@@ -51,7 +51,7 @@ takenOf taken values = record { number = taken .number; values = pick (done (tak
 pub record CapsRead (file : List ℕ) (at n : ℕ) (taken : Taken) (caps : List ℕ) : Type 0 where
   pub is : takenOf taken (take n caps) ≡ numerals wrongM n file at []
   pub good : taken .number ≡ 0 → badSize (ofCaps (take n caps)) ≡ false
-  pub long : length caps ≡ 64
+  pub long : length caps ≡ RACKS
 
 -- a front that is refused
 abbrev pub noHead : ℕ → Head
@@ -64,9 +64,9 @@ headChecks file = refusal (readN file .number) ∷ refusal (readB file .number) 
 -- a front that is done: N, B, the place behind, and the m_p at the front of the list, in order
 pub record Headed (file : List ℕ) (head : Head) (caps : List ℕ) : Type 0 where
   pub racks-are : head .racks ≡ length (fileRacks file)
-  pub few : head .racks ≤ 64
+  pub few : head .racks ≤ RACKS
   pub bytes-are : head .bytes ≡ fileBytes file
-  pub small : head .bytes ≤ 256
+  pub small : head .bytes ≤ BYTES
   pub place-is : head .place ≡ readM file .place
   pub caps-are : take (head .racks) caps ≡ readM file .values
   pub good : first (rackChecks (fileRacks file)) ≡ 0
@@ -75,7 +75,7 @@ pub record Headed (file : List ℕ) (head : Head) (caps : List ℕ) : Type 0 whe
 pub record HeadRead (file : List ℕ) (head : Head) (caps : List ℕ) : Type 0 where
   pub number-is : head .number ≡ first (headChecks file)
   pub headed : head .number ≡ 0 → Headed file head caps
-  pub long : length caps ≡ 64
+  pub long : length caps ≡ RACKS
 
 -- the S entries of racks, from a place on
 unfoldable pub entries : List Rack → List ℕ → ℕ → Numerals
@@ -90,7 +90,7 @@ pub record EntriesRead (racks : List Rack) (file : List ℕ) (at : ℕ) (taken :
   pub number-is : taken .number ≡ first (entriesChecks (entries racks file at))
   pub place-is : taken .number ≡ 0 → taken .place ≡ entries racks file at .place
   pub places-are : taken .number ≡ 0 → take (slots racks) places ≡ each entryOf (entries racks file at .values)
-  pub long : length places ≡ 4096
+  pub long : length places ≡ SLOTS
 
 -- how many bytes lie behind a place
 unfoldable pub leftOf : List ℕ → ℕ → ℕ
@@ -105,5 +105,5 @@ pub record Parsed (file : List ℕ) (found : FileAnswer) (caps places : List ℕ
   pub is : found ≡ fileAnswer file (first (fileChecks file))
   pub caps-are : found .answer .number ≡ 0 → take (found .racks) caps ≡ readM file .values
   pub places-are : found .answer .number ≡ 0 → take (found .slots) places ≡ filePlaces file
-  pub few : (found .racks ≤ 64) × (found .slots ≤ 4096)
-  pub long : (length caps ≡ 64) × (length places ≡ 4096)
+  pub few : (found .racks ≤ RACKS) × (found .slots ≤ SLOTS)
+  pub long : (length caps ≡ RACKS) × (length places ≡ SLOTS)

@@ -4,6 +4,7 @@ use mathlib.Core.List.{List}
 use Prim.Native.Nat.{ℕ, zero, suc, _+_, _*_, _-_, _<_, min}
 use lib.ListN.{length, getD}
 use Rattle.counting.specs.Tests.{pick}
+use Rattle.racks.specs.Limits.{CELLS, RACKS, SLOTS}
 use Rattle.racks.specs.Racks.{Rack}
 use Rattle.racks.specs.Table.{dest, owes}
 use Rattle.tables.specs.parts.Tables.{namedSlot, target, awayBy}
@@ -12,12 +13,12 @@ use Rattle.queues.specs.parts.Queued.{oneMore}
 
 -- where what rack i owes rack p stands
 abbrev pub cell : ℕ → ℕ → ℕ
-cell i p = i * 64 + p
+cell i p = i * RACKS + p
 
 -- the table has what each rack owes each other
 pub record Owed (racks : List Rack) (places owed : List ℕ) : Type 0 where
-  pub counts : (i p : ℕ) → i < 64 → p < 64 → getD owed (cell i p) 0 ≡ owes racks places i p
-  pub long : length owed ≡ 4096
+  pub counts : (i p : ℕ) → i < RACKS → p < RACKS → getD owed (cell i p) 0 ≡ owes racks places i p
+  pub long : length owed ≡ CELLS
 
 -- what racks owe with slot g counted: a card that is away adds one
 unfoldable pub owesWith : List ℕ → List ℕ → ℕ → List ℕ → List ℕ
@@ -26,11 +27,11 @@ owesWith places racking g owed = pick (awayBy racking places g) (oneMore owed (c
 -- slot g can be counted: its rack and its card's rack (its own where it is free) are in the table, and the count of the two has room for one more
 pub record Countable (places racking : List ℕ) (g : ℕ) (owed : List ℕ) : Type 0 where
   pub slot : g < length places
-  pub small : g < 4096
-  pub rack : getD racking g 0 < 64
-  pub named : namedSlot g (dest places g) < 4096
-  pub racked : target racking places g < 64
-  pub owed-long : length owed ≡ 4096
+  pub small : g < SLOTS
+  pub rack : getD racking g 0 < RACKS
+  pub named : namedSlot g (dest places g) < SLOTS
+  pub racked : target racking places g < RACKS
+  pub owed-long : length owed ≡ CELLS
   pub owed-fit : (k : ℕ) → getD owed k 0 < 65535
 
 -- what rack p, with r free slots to give, grants rack i that owes it so many cards; it is no source of its own

@@ -2,6 +2,7 @@
 ghost use mathlib.Core.Path.{_≡_};
 ghost use Prim.Native.Nat.{_≤_, _<_};
 ghost use lib.ListN.{length};
+ghost use Rattle.racks.specs.Limits.{CELLS, RACKS};
 ghost use Rattle.racks.specs.Job.{racksOf};
 ghost use Rattle.tables.specs.parts.Tables.{Open};
 ghost use Rattle.plans.specs.Plan.{plan};
@@ -12,7 +13,12 @@ use racks::Job;
 
 // Counts slot g: a card that is away, for its rack and the one that it is bound for. The count is stored, with 0 or 1 added: where free and
 // taken slots alternate at random no branch on a slot could be foretold.
-fn count_slot(places: &[u16], racking: &[u8; 4096], g: usize, owes: &mut [u16; 4096])
+fn count_slot(
+    places: &[u16],
+    racking: &[u8; Job::MAX_SLOTS],
+    g: usize,
+    owes: &mut [u16; Job::CELLS],
+)
     requires { ⌜ Countable (now places) (now racking) g (now owes) ⌝ }
     ensures { λ _. ⌜ now (owes .exit) ≡ owesWith (now (places .entry)) (now (racking .entry)) g (now (owes .entry)) ⌝ }
 {
@@ -23,8 +29,13 @@ fn count_slot(places: &[u16], racking: &[u8; 4096], g: usize, owes: &mut [u16; 4
 }
 
 // What each rack of a legal table owes each other, into a table of zeros: one pass over the slots.
-pub fn count_owed(job: Job, places: &[u16], racking: &[u8; 4096], owes: &mut [u16; 4096])
-    requires { ⌜ Open job (now places) (now racking) × Blank 4096 (now owes) ⌝ }
+pub fn count_owed(
+    job: Job,
+    places: &[u16],
+    racking: &[u8; Job::MAX_SLOTS],
+    owes: &mut [u16; Job::CELLS],
+)
+    requires { ⌜ Open job (now places) (now racking) × Blank CELLS (now owes) ⌝ }
     ensures { λ _. ⌜ Owed (racksOf job) (now (places .entry)) (now (owes .exit)) ⌝ }
 {
     let mut g: usize = 0;
@@ -48,8 +59,8 @@ fn grant_source(p: usize, r: usize, i: usize, owed: u16) -> usize
 }
 
 // How many cards rack p grants: its sources in ascending order take what is left of its free slots.
-pub fn grant_rack(n: usize, owes: &[u16; 4096], p: usize, room: usize) -> usize
-    requires { ⌜ (n ≤ 64) × (p < n) ⌝ }
+pub fn grant_rack(n: usize, owes: &[u16; Job::CELLS], p: usize, room: usize) -> usize
+    requires { ⌜ (n ≤ RACKS) × (p < n) ⌝ }
     ensures { λ x. ⌜ x ≡ grants n (now (owes .entry)) p room ⌝ }
 {
     let mut r = room;
@@ -62,8 +73,13 @@ pub fn grant_rack(n: usize, owes: &[u16; 4096], p: usize, room: usize) -> usize
 }
 
 // How many pairs the plan of a legal table has: what each rack, with its free slots, grants its sources in turn.
-pub fn count_pairs(job: Job, places: &[u16], racking: &[u8; 4096], owes: &mut [u16; 4096]) -> usize
-    requires { ⌜ Open job (now places) (now racking) × Blank 4096 (now owes) ⌝ }
+pub fn count_pairs(
+    job: Job,
+    places: &[u16],
+    racking: &[u8; Job::MAX_SLOTS],
+    owes: &mut [u16; Job::CELLS],
+) -> usize
+    requires { ⌜ Open job (now places) (now racking) × Blank CELLS (now owes) ⌝ }
     ensures { λ r. ⌜ r ≡ length (plan (racksOf job) (now (places .entry))) ⌝ }
 {
     count_owed(job, places, racking, owes);

@@ -28,6 +28,10 @@ LOWS = 4352
 abbrev pub LINE : ℕ
 LINE = 4416
 
+-- which of the words beside the line has a bit for each rack that waits
+abbrev pub WAITING : ℕ
+WAITING = 65
+
 -- a list of n zeros
 pub record Blank (n : ℕ) (list : List ℕ) : Type 0 where
   pub zero : (k : ℕ) → getD list k 0 ≡ 0

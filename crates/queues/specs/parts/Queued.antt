@@ -6,12 +6,13 @@ use Prim.Native.Nat.{ℕ, _+_, _≤_, _<_}
 use lib.Dec.{leb, ltb}
 use lib.ListN.{length, getD, set}
 use Rattle.counting.specs.Tests.{_and_, pick}
+use Rattle.racks.specs.Limits.{RACKS, SLOTS}
 use Rattle.racks.specs.Racks.{Rack, base}
 use Rattle.racks.specs.Table.{dest, free}
 use Rattle.tables.specs.parts.Tables.{namedSlot, target, awayBy}
 use Rattle.plans.specs.Plan.{room}
 use Rattle.bits.specs.parts.Bits.{bitOn}
-use Rattle.queues.specs.parts.Line.{headOf, tailOf, roomOf, lowOf, HEADS, TAILS, ROOMS, LOWS}
+use Rattle.queues.specs.parts.Line.{headOf, tailOf, roomOf, lowOf, HEADS, TAILS, ROOMS, LOWS, LINE}
 
 -- slot g is free, and not below low
 unfoldable pub freeFrom : List ℕ → ℕ → ℕ → Bool
@@ -31,11 +32,11 @@ pub record Placed (racks : List Rack) (places : List ℕ) (n : ℕ) (line : List
   pub tails-are : (p : ℕ) → p < n → tailOf line p ≡ begins racks p
   pub rooms-are : (p : ℕ) → p < n → roomOf line p ≡ room racks places p
   pub lows-are : (p : ℕ) → p < n → lowOf line p ≡ base racks p
-  pub heads-none : (p : ℕ) → n ≤ p → p < 64 → headOf line p ≡ 0
-  pub tails-none : (p : ℕ) → n ≤ p → p < 64 → tailOf line p ≡ 0
-  pub rooms-none : (p : ℕ) → n ≤ p → p < 64 → roomOf line p ≡ 0
-  pub lows-none : (p : ℕ) → n ≤ p → p < 64 → lowOf line p ≡ 0
-  pub long : length line ≡ 4416
+  pub heads-none : (p : ℕ) → n ≤ p → p < RACKS → headOf line p ≡ 0
+  pub tails-none : (p : ℕ) → n ≤ p → p < RACKS → tailOf line p ≡ 0
+  pub rooms-none : (p : ℕ) → n ≤ p → p < RACKS → roomOf line p ≡ 0
+  pub lows-none : (p : ℕ) → n ≤ p → p < RACKS → lowOf line p ≡ 0
+  pub long : length line ≡ LINE
 
 -- one more at k
 unfoldable pub oneMore : List ℕ → ℕ → List ℕ
@@ -52,12 +53,12 @@ queued racking places g line =
 -- slot g can be queued: it and its card's destination are slots, the table has racks there, and its card's queue has room
 pub record Queueable (racking places : List ℕ) (g : ℕ) (line : List ℕ) : Type 0 where
   pub slot : g < length places
-  pub small : g < 4096
-  pub rack : getD racking g 0 < 64
-  pub named : namedSlot g (dest places g) < 4096
-  pub racked : target racking places g < 64
-  pub fits : tailOf line (target racking places g) < 4160
-  pub long : length line ≡ 4416
+  pub small : g < SLOTS
+  pub rack : getD racking g 0 < RACKS
+  pub named : namedSlot g (dest places g) < SLOTS
+  pub racked : target racking places g < RACKS
+  pub fits : tailOf line (target racking places g) < HEADS
+  pub long : length line ≡ LINE
 
 -- a word with a bit on for each of n racks for which a card waits
 pub record Awaiting (n : ℕ) (line : List ℕ) (word : ℕ) : Type 0 where

@@ -9,8 +9,9 @@ use lib.Seq.{sets, slice}
 use Rattle.counting.specs.Tests.{_and_}
 use Rattle.counting.specs.Count.{select}
 use Rattle.counting.specs.Lists.{Pair, tabulate, join, pairUp, flat}
+use Rattle.racks.specs.Limits.{RACKS, SLOTS}
 use Rattle.bits.specs.parts.Bits.{bitOn, isOn, Topped}
-use Rattle.queues.specs.parts.Line.{queueOf, headOf, tailOf, roomOf, lowOf, HEADS, ROOMS}
+use Rattle.queues.specs.parts.Line.{queueOf, headOf, tailOf, roomOf, lowOf, HEADS, ROOMS, LINE, WAITING}
 
 -- slot g is in the set, and not below low
 unfoldable pub openFrom : List ℕ → ℕ → ℕ → Bool
@@ -26,7 +27,7 @@ part l low high = slice low high l
 
 -- the cards of a queue from head up to end, with the slots of the set from low on: first with first
 unfoldable pub served : List ℕ → List ℕ → ℕ → ℕ → ℕ → List Pair
-served bits queue head end low = pairUp (part queue head end) (opens bits low 4096)
+served bits queue head end low = pairUp (part queue head end) (opens bits low SLOTS)
 
 -- the state of a call, as it is read: the queues of all racks in one list, where each begins and ends; how many free slots each rack has and where
 -- the search for them begins; the free slots as a set; and a word with a bit for each rack that is on where a card waits for it
@@ -42,7 +43,7 @@ pub record Rows : Type 0 where
 -- read from the line and the words
 abbrev pub rowsOf : List ℕ → List ℕ → Rows
 rowsOf line bits =
-    record { queue = queueOf line; heads = headOf line; tails = tailOf line; rooms = roomOf line; lows = lowOf line; bits = bits; waiting = getD bits 65 0 }
+    record { queue = queueOf line; heads = headOf line; tails = tailOf line; rooms = roomOf line; lows = lowOf line; bits = bits; waiting = getD bits WAITING 0 }
 
 -- how many cards rack p takes: as many as wait for it, but no more than it has room for
 unfoldable pub sent : Rows → ℕ → ℕ
@@ -59,9 +60,9 @@ queuedPlan n rows = join (tabulate n (pairsFor rows))
 -- what rack p's visit needs
 pub record Visitable (rows : Rows) (p : ℕ) : Type 0 where
   pub queued : rows .heads p ≤ rows .tails p
-  pub within : rows .tails p ≤ 4160
-  pub low-in : rows .lows p ≤ 4096
-  pub roomy : rows .rooms p ≤ length (opens (rows .bits) (rows .lows p) 4096)
+  pub within : rows .tails p ≤ HEADS
+  pub low-in : rows .lows p ≤ SLOTS
+  pub roomy : rows .rooms p ≤ length (opens (rows .bits) (rows .lows p) SLOTS)
 
 -- a rack's bit is on where a card waits for it
 abbrev pub Exact : ℕ → (ℕ → ℕ) → (ℕ → ℕ) → ℕ → Type 0
@@ -69,10 +70,10 @@ Exact n heads tails waiting = (p : ℕ) → p < n → bitOn waiting p ≡ ltb (h
 
 -- every rack can be visited
 pub record Bounded (rows : Rows) : Type 0 where
-  pub queue-long : length (rows .queue) ≡ 4160
-  pub racks : (p : ℕ) → p < 64 → Visitable rows p
+  pub queue-long : length (rows .queue) ≡ HEADS
+  pub racks : (p : ℕ) → p < RACKS → Visitable rows p
   pub topped : Topped (rows .bits)
-  pub exact : Exact 64 (rows .heads) (rows .tails) (rows .waiting)
+  pub exact : Exact RACKS (rows .heads) (rows .tails) (rows .waiting)
 
 -- pairs written from `at` on, and how many
 pub record Written (pairs : List Pair) (before : List ℕ) (at : ℕ) (after : List ℕ) (count : ℕ) : Type 0 where
@@ -92,24 +93,24 @@ pub record Visited (line bits : List ℕ) (p : ℕ) (log : List ℕ) (at : ℕ) 
 -- the first n racks were visited: their queues begin behind the cards that they take, and they have so much less room
 pub record Passed (n : ℕ) (rows rows′ : Rows) : Type 0 where
   pub queue-is : rows′ .queue ≡ rows .queue
-  pub tails-are : (p : ℕ) → p < 64 → rows′ .tails p ≡ rows .tails p
-  pub lows-are : (p : ℕ) → p < 64 → rows′ .lows p ≡ rows .lows p
+  pub tails-are : (p : ℕ) → p < RACKS → rows′ .tails p ≡ rows .tails p
+  pub lows-are : (p : ℕ) → p < RACKS → rows′ .lows p ≡ rows .lows p
   pub heads-are : (p : ℕ) → p < n → rows′ .heads p ≡ rows .heads p + sent rows p
   pub rooms-are : (p : ℕ) → p < n → rows′ .rooms p ≡ rows .rooms p - sent rows p
-  pub heads-rest : (p : ℕ) → n ≤ p → p < 64 → rows′ .heads p ≡ rows .heads p
-  pub rooms-rest : (p : ℕ) → n ≤ p → p < 64 → rows′ .rooms p ≡ rows .rooms p
+  pub heads-rest : (p : ℕ) → n ≤ p → p < RACKS → rows′ .heads p ≡ rows .heads p
+  pub rooms-rest : (p : ℕ) → n ≤ p → p < RACKS → rows′ .rooms p ≡ rows .rooms p
 
 -- a phase can be planned behind `at` in the log
 pub record Plannable (line bits log : List ℕ) (at : ℕ) : Type 0 where
-  pub long : length line ≡ 4416
+  pub long : length line ≡ LINE
   pub bounded : Bounded (rowsOf line bits)
-  pub fits : at + 2 * length (queuedPlan 64 (rowsOf line bits)) ≤ length log
+  pub fits : at + 2 * length (queuedPlan RACKS (rowsOf line bits)) ≤ length log
 
 -- a phase planned: its pairs are written, every rack was visited, and the set is the same
 pub record PhasePlanned (line bits log : List ℕ) (at : ℕ) (line′ bits′ log′ : List ℕ) (count : ℕ) : Type 0 where
-  pub written : Written (queuedPlan 64 (rowsOf line bits)) log at log′ count
-  pub passed : Passed 64 (rowsOf line bits) (rowsOf line′ bits)
-  pub long : length line′ ≡ 4416
+  pub written : Written (queuedPlan RACKS (rowsOf line bits)) log at log′ count
+  pub passed : Passed RACKS (rowsOf line bits) (rowsOf line′ bits)
+  pub long : length line′ ≡ LINE
   pub topped : Topped bits′
-  pub same : (k : ℕ) → k < 4096 → isOn bits′ k ≡ isOn bits k
-  pub exact : Exact 64 (headOf line′) (tailOf line′) (getD bits′ 65 0)
+  pub same : (k : ℕ) → k < SLOTS → isOn bits′ k ≡ isOn bits k
+  pub exact : Exact RACKS (headOf line′) (tailOf line′) (getD bits′ WAITING 0)

@@ -4,10 +4,11 @@ ghost use Prim.Native.Nat.{_+_, _≤_, _<_};
 ghost use lib.ListN.{length};
 ghost use Rattle.counting.specs.Tests.{pick};
 ghost use Rattle.counting.specs.Count.{count};
+ghost use Rattle.racks.specs.Limits.{RACKS, SLOTS};
 ghost use Rattle.racks.specs.Racks.{slots};
 ghost use Rattle.racks.specs.Job.{racksOf, Sound};
 ghost use Rattle.tables.specs.parts.Tables.{Open};
-ghost use Rattle.bits.specs.parts.Bits.{turnedOn};
+ghost use Rattle.bits.specs.parts.Bits.{turnedOn, WORDS};
 ghost use Rattle.queues.specs.parts.Line.{LINE, Blank};
 ghost use Rattle.queues.specs.parts.Queued.{freeFrom, placed, Placed, Queueable, queued, Awaiting};
 ghost use Rattle.queues.specs.parts.Ready.{Started};
@@ -17,7 +18,7 @@ use racks::Job;
 
 // How many of the slots from `low` up to `high` are free.
 pub fn count_free(places: &[u16], low: usize, high: usize) -> u16
-    requires { ⌜ (low ≤ high) × (high ≤ length (now places)) × (high ≤ 4096) ⌝ }
+    requires { ⌜ (low ≤ high) × (high ≤ length (now places)) × (high ≤ SLOTS) ⌝ }
     ensures { λ r. ⌜ r ≡ count high (freeFrom (now (places .entry)) low) ⌝ }
 {
     let mut free: u16 = 0;
@@ -30,8 +31,8 @@ pub fn count_free(places: &[u16], low: usize, high: usize) -> u16
 }
 
 // Rack p in the line, with its first slot and its free slots; its queue is empty.
-fn place_rack(line: &mut [u16; 4416], p: usize, low: u16, rooms: u16)
-    requires { ⌜ (length (now line) ≡ 4416) × (p < 64) × (low ≤ 4096) ⌝ }
+fn place_rack(line: &mut [u16; line::LINE], p: usize, low: u16, rooms: u16)
+    requires { ⌜ (length (now line) ≡ LINE) × (p < RACKS) × (low ≤ SLOTS) ⌝ }
     ensures { λ _. ⌜ now (line .exit) ≡ placed p low rooms (now (line .entry)) ⌝ }
 {
     let begins = low + p as u16;
@@ -42,7 +43,7 @@ fn place_rack(line: &mut [u16; 4416], p: usize, low: u16, rooms: u16)
 }
 
 // Every rack in the line.
-fn place_racks(job: Job, places: &[u16], line: &mut [u16; 4416])
+fn place_racks(job: Job, places: &[u16], line: &mut [u16; line::LINE])
     requires { ⌜ Sound job × (length (now places) ≡ slots (racksOf job)) × Blank LINE (now line) ⌝ }
     ensures { λ _. ⌜ Placed (racksOf job) (now (places .entry)) (job .racks) (now (line .exit)) ⌝ }
 {
@@ -59,7 +60,12 @@ fn place_racks(job: Job, places: &[u16], line: &mut [u16; 4416])
 
 // One slot of the pass: where its card is away, the slot goes to the tail of its card's queue. The store is made whatever the slot holds,
 // since no branch on it could be foretold where free and taken slots alternate at random: where no card is away the tail stays before it.
-fn queue_slot(places: &[u16], racking: &[u8; 4096], g: usize, line: &mut [u16; 4416])
+fn queue_slot(
+    places: &[u16],
+    racking: &[u8; Job::MAX_SLOTS],
+    g: usize,
+    line: &mut [u16; line::LINE],
+)
     requires { ⌜ Queueable (now racking) (now places) g (now line) ⌝ }
     ensures { λ _. ⌜ now (line .exit) ≡ queued (now (racking .entry)) (now (places .entry)) g (now (line .entry)) ⌝ }
 {
@@ -72,7 +78,7 @@ fn queue_slot(places: &[u16], racking: &[u8; 4096], g: usize, line: &mut [u16; 4
 
 // A word with bit p on where something is so.
 fn turn_if(word: u64, p: usize, so: bool) -> u64
-    requires { ⌜ p < 64 ⌝ }
+    requires { ⌜ p < RACKS ⌝ }
     ensures { λ r. ⌜ r ≡ pick so (turnedOn word p) word ⌝ }
 {
     if so {
@@ -82,8 +88,8 @@ fn turn_if(word: u64, p: usize, so: bool) -> u64
 }
 
 // The racks that wait: a bit is on where a card is in the rack's queue.
-fn find_waiting(n: usize, line: &[u16; 4416]) -> u64
-    requires { ⌜ n ≤ 64 ⌝ }
+fn find_waiting(n: usize, line: &[u16; line::LINE]) -> u64
+    requires { ⌜ n ≤ RACKS ⌝ }
     ensures { λ r. ⌜ Awaiting n (now (line .entry)) r ⌝ }
 {
     let mut word: u64 = 0;
@@ -99,11 +105,11 @@ fn find_waiting(n: usize, line: &[u16; 4416]) -> u64
 pub fn queue_up(
     job: Job,
     places: &[u16],
-    racking: &[u8; 4096],
-    line: &mut [u16; 4416],
-    bits: &mut [u64; 66],
+    racking: &[u8; Job::MAX_SLOTS],
+    line: &mut [u16; line::LINE],
+    bits: &mut [u64; bits::parts::WORDS],
 )
-    requires { ⌜ Open job (now places) (now racking) × Blank LINE (now line) × Blank 66 (now bits) ⌝ }
+    requires { ⌜ Open job (now places) (now racking) × Blank LINE (now line) × Blank WORDS (now bits) ⌝ }
     ensures { λ _. ⌜ Started (racksOf job) (now (places .entry)) (now (line .exit)) (now (bits .exit)) ⌝ }
 {
     place_racks(job, places, line);
@@ -113,5 +119,5 @@ pub fn queue_up(
         queue_slot(places, racking, g, line);
         g = g + 1;
     }
-    bits[65] = find_waiting(job.racks, line);
+    bits[line::WAITING] = find_waiting(job.racks, line);
 }

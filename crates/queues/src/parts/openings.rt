@@ -1,6 +1,8 @@
 // The free slots of a table as a set of bits, found word by word.
 ghost use Prim.Native.Nat.{_+_, _≤_};
 ghost use lib.ListN.{length};
+ghost use Rattle.racks.specs.Limits.{SLOTS};
+ghost use Rattle.bits.specs.parts.Bits.{WORDS};
 ghost use Rattle.queues.specs.parts.Line.{Blank};
 ghost use Rattle.queues.specs.parts.Openings.{Word, Opened};
 use crate::parts::planning;
@@ -22,8 +24,8 @@ fn free_word(places: &[u16], low: usize, high: usize) -> u64
 }
 
 // The set of the free slots of a table.
-pub fn find_free(places: &[u16], bits: &mut [u64; 66])
-    requires { ⌜ (length (now places) ≤ 4096) × Blank 66 (now bits) ⌝ }
+pub fn find_free(places: &[u16], bits: &mut [u64; bits::parts::WORDS])
+    requires { ⌜ (length (now places) ≤ SLOTS) × Blank WORDS (now bits) ⌝ }
     ensures { λ _. ⌜ Opened (now (places .entry)) (now (bits .exit)) ⌝ }
 {
     let slots = places.len();

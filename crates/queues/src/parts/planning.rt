@@ -5,8 +5,9 @@ ghost use lib.ListN.{length};
 ghost use lib.Seq.{sets};
 ghost use Rattle.counting.specs.Tests.{pick};
 ghost use Rattle.counting.specs.Lists.{flat};
+ghost use Rattle.racks.specs.Limits.{RACKS, SLOTS};
 ghost use Rattle.bits.specs.parts.Bits.{turnedOff, Topped};
-ghost use Rattle.queues.specs.parts.Line.{queueOf};
+ghost use Rattle.queues.specs.parts.Line.{queueOf, HEADS, LINE};
 ghost use Rattle.queues.specs.parts.Queues.{rowsOf, served, sent, Visitable, Visited, Plannable, PhasePlanned, opens};
 use crate::parts::line;
 
@@ -23,16 +24,16 @@ pub fn smaller(x: usize, y: usize) -> usize
 // Writes the pairs of one target from `at` on, two numbers each: its cards from `head` up to `end` of the queues take the free slots from
 // `low` on, of which there are as many.
 fn plan_rack(
-    line: &[u16; 4416],
+    line: &[u16; line::LINE],
     head: usize,
     end: usize,
-    bits: &[u64; 66],
+    bits: &[u64; bits::parts::WORDS],
     low: usize,
     log: &mut [u16],
     at: usize,
 )
-    requires { ⌜ (head ≤ end) × (end ≤ 4160) × (length (now line) ≡ 4416) × (low ≤ 4096) × Topped (now bits) ⌝ }
-    requires { ⌜ (end ≤ head + length (opens (now bits) low 4096)) × (at + 2 * (end - head) ≤ length (now log)) ⌝ }
+    requires { ⌜ (head ≤ end) × (end ≤ HEADS) × (length (now line) ≡ LINE) × (low ≤ SLOTS) × Topped (now bits) ⌝ }
+    requires { ⌜ (end ≤ head + length (opens (now bits) low SLOTS)) × (at + 2 * (end - head) ≤ length (now log)) ⌝ }
     ensures { λ _. ⌜ now (log .exit) ≡ sets (now (log .entry)) at (flat (served (now (bits .entry)) (queueOf (now (line .entry))) head end low)) ⌝ }
 {
     let mut h = head;
@@ -53,8 +54,14 @@ fn plan_rack(
 
 // Visits rack p: writes the pairs of the cards that it takes from `at` on, and says how many they are. Its queue then begins behind them,
 // and it has so much less room.
-fn visit(line: &mut [u16; 4416], p: usize, bits: &[u64; 66], log: &mut [u16], at: usize) -> usize
-    requires { ⌜ (length (now line) ≡ 4416) × (p < 64) × Topped (now bits) × Visitable (rowsOf (now line) (now bits)) p × (at + 2 * sent (rowsOf (now line) (now bits)) p ≤ length (now log)) ⌝ }
+fn visit(
+    line: &mut [u16; line::LINE],
+    p: usize,
+    bits: &[u64; bits::parts::WORDS],
+    log: &mut [u16],
+    at: usize,
+) -> usize
+    requires { ⌜ (length (now line) ≡ LINE) × (p < RACKS) × Topped (now bits) × Visitable (rowsOf (now line) (now bits)) p × (at + 2 * sent (rowsOf (now line) (now bits)) p ≤ length (now log)) ⌝ }
     ensures { λ r. ⌜ Visited (now (line .entry)) (now (bits .entry)) p (now (log .entry)) at (now (line .exit)) (now (log .exit)) r ⌝ }
 {
     let head = line[line::HEADS + p] as usize;
@@ -71,7 +78,7 @@ fn visit(line: &mut [u16; 4416], p: usize, bits: &[u64; 66], log: &mut [u16], at
 
 // The racks that wait: without rack p where no more cards wait for it.
 fn stop_waiting(waiting: u64, p: usize, more: bool) -> u64
-    requires { ⌜ p < 64 ⌝ }
+    requires { ⌜ p < RACKS ⌝ }
     ensures { λ r. ⌜ r ≡ pick more waiting (turnedOff waiting p) ⌝ }
 {
     if more {
@@ -82,12 +89,17 @@ fn stop_waiting(waiting: u64, p: usize, more: bool) -> u64
 
 // Plans a phase: its pairs from `at` on, by target rack, and how many they are. Only racks that wait are visited, each taken out of a word
 // of those still to be visited; a rack whose queue is used up waits no more.
-pub fn plan_phase(line: &mut [u16; 4416], bits: &mut [u64; 66], log: &mut [u16], at: usize) -> usize
+pub fn plan_phase(
+    line: &mut [u16; line::LINE],
+    bits: &mut [u64; bits::parts::WORDS],
+    log: &mut [u16],
+    at: usize,
+) -> usize
     requires { ⌜ Plannable (now line) (now bits) (now log) at ⌝ }
     ensures { λ r. ⌜ PhasePlanned (now (line .entry)) (now (bits .entry)) (now (log .entry)) at (now (line .exit)) (now (bits .exit)) (now (log .exit)) r ⌝ }
 {
     let mut count: usize = 0;
-    let mut waiting = bits[65];
+    let mut waiting = bits[line::WAITING];
     let mut left = waiting;
     let mut p = bits::parts::next_on(left, 0);
     while p < 64 {
@@ -97,6 +109,6 @@ pub fn plan_phase(line: &mut [u16; 4416], bits: &mut [u64; 66], log: &mut [u16],
         count = count + made;
         p = bits::parts::next_on(left, 0);
     }
-    bits[65] = waiting;
+    bits[line::WAITING] = waiting;
     count
 }

@@ -5,6 +5,7 @@ use mathlib.Core.List.{List, [], _∷_, _++_}
 use Prim.Native.Nat.{ℕ, _+_, _*_, _≤_, _<_}
 use lib.ListN.{length, getD, take}
 use Rattle.counting.specs.Lists.{Pair, join, matching, flat}
+use Rattle.racks.specs.Limits.{SLOTS}
 use Rattle.racks.specs.Racks.{Rack}
 use Rattle.racks.specs.Numbers.{someAway}
 use Rattle.racks.specs.parts.Legal.{Legal}
@@ -44,7 +45,7 @@ pub record Logged (done : List (List Pair)) (log : List ℕ) : Type 0 where
 pub record Round (racks : List Rack) (b : ℕ) (h₀ : Held) (done : List (List Pair)) (t : Tally) (h : Held) (racking line bits log owes awaits : List ℕ) : Type 0 where
   pub fixed : Fixed racks racking
   pub legal₀ : Legal racks (h₀ .places)
-  pub turn : Turn racks b 4096 h₀ t h line bits log
+  pub turn : Turn racks b SLOTS h₀ t h line bits log
   pub phases-are : phases racks (h₀ .places) ≡ done ++ phases racks (h .places)
   pub held-is : h ≡ carried b (join done) h₀
   pub in-turn : InTurn racks (h₀ .places) (join done)

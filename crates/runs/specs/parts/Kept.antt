@@ -6,6 +6,7 @@ use Prim.Native.Nat.{ℕ, _-_, _<_}
 use lib.Dec.{eqb}
 use lib.ListN.{length, getD, set}
 use Rattle.counting.specs.Lists.{Pair}
+use Rattle.racks.specs.Limits.{CELLS, RACKS, SLOTS}
 use Rattle.racks.specs.Racks.{Rack}
 use Rattle.planner.specs.parts.Owed.{cell}
 use Rattle.runs.specs.Awaits.{awaits}
@@ -26,7 +27,7 @@ paid racking (m ∷ ms) counts = paid racking ms (pay racking m counts)
 -- each move is one that is still owed when its turn comes, from one of 64 racks to another
 pub data Payable (racking : List ℕ) : List Pair → List ℕ → Type 0 where
   none : {counts : List ℕ} → Payable racking [] counts
-  more : {m : Pair} {ms : List Pair} {counts : List ℕ} → m .0 < 4096 → m .1 < 4096 → getD racking (m .0) 0 < 64 → getD racking (m .1) 0 < 64
+  more : {m : Pair} {ms : List Pair} {counts : List ℕ} → m .0 < SLOTS → m .1 < SLOTS → getD racking (m .0) 0 < RACKS → getD racking (m .1) 0 < RACKS
       → 0 < getD counts (cellOf racking m) 0 → Payable racking ms (pay racking m counts) → Payable racking (m ∷ ms) counts
 
 -- moves paid for in both tables
@@ -35,10 +36,10 @@ pub record Paid (racking : List ℕ) (ms : List Pair) (owes awaits owes′ await
   pub awaits-are : awaits′ ≡ paid racking ms awaits
 
 -- the table has what each rack awaits: what it was owed at the start, less the moves made
-pub record Awaited (racks : List Rack) (start : List ℕ) (made : List Pair) (racking : List ℕ) : Type 0 where
-  pub counts : (i p : ℕ) → i < 64 → p < 64 → getD racking (cell i p) 0 ≡ awaits racks start made i p
-  pub long : length racking ≡ 4096
+pub record Awaited (racks : List Rack) (start : List ℕ) (made : List Pair) (awaited : List ℕ) : Type 0 where
+  pub counts : (i p : ℕ) → i < RACKS → p < RACKS → getD awaited (cell i p) 0 ≡ awaits racks start made i p
+  pub long : length awaited ≡ CELLS
 
 -- cell k of a table has a count
 unfoldable pub owing : List ℕ → ℕ → Bool
-owing racking k = not (eqb (getD racking k 0) 0)
+owing counts k = not (eqb (getD counts k 0) 0)

@@ -1,6 +1,7 @@
 // Phases until nothing is awaited.
 ghost use mathlib.Core.Path.{_≡_};
 ghost use Prim.Native.Nat.{_≤_};
+ghost use Rattle.racks.specs.Limits.{CELLS};
 ghost use Rattle.racks.specs.Job.{racksOf};
 ghost use Rattle.bits.specs.parts.Bits.{Next};
 ghost use Rattle.moves.specs.Moves.{held};
@@ -8,6 +9,7 @@ ghost use Rattle.runs.specs.parts.Kept.{owing};
 ghost use Rattle.runs.specs.parts.Gathered.{ENDS, LOG, Rounding, RoundMade, Set, PhasesMade};
 use crate::parts::paying;
 use answers::Tally;
+use queues::parts::line;
 use racks::Job;
 
 // Where in a run's log the moves made up to each phase's end stand, behind all pairs.
@@ -24,8 +26,8 @@ pub fn log_agrees()
 
 // The first cell of the table from `cell` on in which something is awaited; `cells` where there is none. The counts only fall, so a run looks
 // at each cell once.
-fn next_awaited(awaits: &[u16; 4096], cell: usize, cells: usize) -> usize
-    requires { ⌜ (cell ≤ cells) × (cells ≤ 4096) ⌝ }
+fn next_awaited(awaits: &[u16; Job::CELLS], cell: usize, cells: usize) -> usize
+    requires { ⌜ (cell ≤ cells) × (cells ≤ CELLS) ⌝ }
     ensures { λ r. ⌜ Next (owing (now (awaits .entry))) cell cells r ⌝ }
 {
     let mut k = cell;
@@ -44,19 +46,29 @@ fn run_round(
     tally: Tally,
     places: &mut [u16],
     cards: &mut [u8],
-    racking: &[u8; 4096],
-    line: &mut [u16; 4416],
-    bits: &mut [u64; 66],
+    racking: &[u8; Job::MAX_SLOTS],
+    line: &mut [u16; line::LINE],
+    bits: &mut [u64; bits::parts::WORDS],
     log: &mut [u16],
-    owes: &mut [u16; 4096],
-    awaits: &mut [u16; 4096],
+    owes: &mut [u16; Job::CELLS],
+    awaits: &mut [u16; Job::CELLS],
 ) -> Tally
     requires { ⌜ Rounding b tally (held (now places) (now cards)) (now racking) (now line) (now bits) (now log) (now owes) (now awaits) ⌝ }
     ensures { λ r. ⌜ RoundMade b tally (held (now (places .entry)) (now (cards .entry))) (now (racking .entry)) (now (line .entry)) (now (bits .entry)) (now (log .entry)) (now (owes .entry)) (now (awaits .entry)) r (held (now (places .exit)) (now (cards .exit))) (now (line .exit)) (now (bits .exit)) (now (log .exit)) (now (owes .exit)) (now (awaits .exit)) ⌝ }
 {
     let low = 2 * tally.moves;
     let j = tally.phases;
-    let made = budgets::parts::run_phase(b, 4096, tally, places, cards, racking, line, bits, log);
+    let made = budgets::parts::run_phase(
+        b,
+        Job::MAX_SLOTS,
+        tally,
+        places,
+        cards,
+        racking,
+        line,
+        bits,
+        log,
+    );
     let high = 2 * made.moves;
     paying::pay_moves(log, low, high, racking, owes, awaits);
     log[ENDS + j] = made.moves as u16;
@@ -69,12 +81,12 @@ pub fn run_phases(
     b: usize,
     places: &mut [u16],
     cards: &mut [u8],
-    racking: &[u8; 4096],
-    line: &mut [u16; 4416],
-    bits: &mut [u64; 66],
+    racking: &[u8; Job::MAX_SLOTS],
+    line: &mut [u16; line::LINE],
+    bits: &mut [u64; bits::parts::WORDS],
     log: &mut [u16],
-    owes: &mut [u16; 4096],
-    awaits: &mut [u16; 4096],
+    owes: &mut [u16; Job::CELLS],
+    awaits: &mut [u16; Job::CELLS],
 ) -> Tally
     requires { ⌜ Set job b (held (now places) (now cards)) (now racking) (now line) (now bits) (now log) (now owes) (now awaits) ⌝ }
     ensures { λ r. ⌜ PhasesMade (racksOf job) b (held (now (places .entry)) (now (cards .entry))) (held (now (places .exit)) (now (cards .exit))) r (now (log .exit)) ⌝ }

@@ -3,6 +3,7 @@ ghost use mathlib.Core.Path.{_≡_};
 ghost use Prim.Native.Nat.{_*_, _≤_};
 ghost use lib.ListN.{length};
 ghost use Rattle.counting.specs.Checks.{first};
+ghost use Rattle.racks.specs.Limits.{BYTES};
 ghost use Rattle.racks.specs.Racks.{ofCaps, slots};
 ghost use Rattle.racks.specs.parts.Legal.{Spared};
 ghost use Rattle.racks.specs.Numbers.{cardChecks};
@@ -38,12 +39,12 @@ pub fn put_run(
     b: usize,
     places: &mut [u16],
     cards: &mut [u8],
-    racking: &[u8; 4096],
+    racking: &[u8; Job::MAX_SLOTS],
 ) -> usize
-    requires { ⌜ Open job (now places) (now racking) × Spared (racksOf job) × (length (now cards) ≡ slots (racksOf job) * b) × (b ≤ 256) × Room (runText (racksOf job) b (held (now places) (now cards))) 0 (now out) ⌝ }
+    requires { ⌜ Open job (now places) (now racking) × Spared (racksOf job) × (length (now cards) ≡ slots (racksOf job) * b) × (b ≤ BYTES) × Room (runText (racksOf job) b (held (now places) (now cards))) 0 (now out) ⌝ }
     ensures { λ r. ⌜ Wrote (runText (racksOf job) b (held (now (places .entry)) (now (cards .entry)))) (now (out .entry)) 0 (now (out .exit)) r ⌝ }
 {
-    let mut log = [0u16; 12288];
+    let mut log = [0u16; runs::parts::rounds::LOG];
     let made = runs::parts::make_phases(job, b, places, cards, racking, &mut log);
     let mut next = phasing::put_phases(out, &log, made.phases);
     next = put_copy_list(out, next, places, &mut log);
@@ -60,7 +61,7 @@ pub fn put_job(out: &mut [u8], caps: &[u16], b: usize, places: &mut [u16], bytes
     let mut cards = [0u8; TextAnswer::FILE];
     let size = words::put_text(&mut cards, 0, bytes);
     let job = Job::of(caps);
-    let mut racking = [0u8; 4096];
+    let mut racking = [0u8; Job::MAX_SLOTS];
     tables::parts::fill_racking(job, &mut racking);
     put_run(out, job, b, places, &mut cards[..size], &racking)
 }

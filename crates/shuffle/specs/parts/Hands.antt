@@ -7,7 +7,7 @@ use lib.Dec.{eqb}
 use lib.ListN.{length, getD, take, set}
 use Rattle.counting.specs.Tests.{pick, bit}
 use Rattle.counting.specs.Lists.{Pair, tabulate, join}
-use Rattle.racks.specs.Limits.{FREE}
+use Rattle.racks.specs.Limits.{FREE, BYTES, SLOTS}
 use Rattle.moves.specs.Blocks.{block, putBlock, blank}
 use Rattle.answers.specs.Answers.{plusCopies}
 use Rattle.answers.specs.declared.Tally.{Tally}
@@ -31,7 +31,7 @@ slid b (c ∷ cs) cards = slid b cs (putBlock b (c .1) (block b (c .0) cards) ca
 -- the hand has its length, and the cards and the hand's card are those of h
 pub record HandedAs (b : ℕ) (cards hand : List ℕ) (h : Hands) : Type 0 where
   pub is : handed b cards hand ≡ h
-  pub long : length hand ≡ 256
+  pub long : length hand ≡ BYTES
 
 -- the copies of a factor are made, as they are walked
 pub record WalkBrought (b : ℕ) (places : List ℕ) (head left end : ℕ) (cards hand : List ℕ) (count : ℕ) (cards′ hand′ : List ℕ) : Type 0 where
@@ -66,7 +66,7 @@ pub record FreeListed (places : List ℕ) (d : ℕ) (frees : List ℕ) (n : ℕ)
   pub hits : (i : ℕ) → i < n → (getD frees i 0 < d) × (source places (getD frees i 0) ≡ FREE)
   pub all : (g : ℕ) → g < d → source places g ≡ FREE → (i : ℕ) × (i < n) × (getD frees i 0 ≡ g)
   pub few : n ≤ d
-  pub long : length frees ≡ 4096
+  pub long : length frees ≡ SLOTS
 
 -- the new table, and the free slots
 pub record TableSettled (places places′ frees : List ℕ) (n : ℕ) : Type 0 where

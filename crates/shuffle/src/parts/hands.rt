@@ -3,7 +3,7 @@ ghost use mathlib.Core.Path.{_≡_};
 ghost use mathlib.Core.Logic.{_≢_};
 ghost use Prim.Native.Nat.{_+_, _*_, _≤_, _<_};
 ghost use lib.ListN.{length, take};
-ghost use Rattle.racks.specs.Limits.{FREE};
+ghost use Rattle.racks.specs.Limits.{FREE, BYTES, COPIES, SLOTS};
 ghost use Rattle.moves.specs.Blocks.{block, putBlock};
 ghost use Rattle.copies.specs.Copies.{next, shift, copies};
 ghost use Rattle.copies.specs.parts.Chains.{Chained};
@@ -12,10 +12,10 @@ ghost use Rattle.shuffle.specs.parts.Hands.{slid, WalkBrought, SlotBroug
 use racks::Job;
 
 // The card in slot `from` goes to the hand.
-pub fn take_card(cards: &[u8], hand: &mut [u8; 256], b: usize, from: usize)
-    requires { ⌜ (from * b + b ≤ length (now cards)) × (b ≤ 256) × (length (now hand) ≡ 256) ⌝ }
+pub fn take_card(cards: &[u8], hand: &mut [u8; Job::MAX_BYTES], b: usize, from: usize)
+    requires { ⌜ (from * b + b ≤ length (now cards)) × (b ≤ BYTES) × (length (now hand) ≡ BYTES) ⌝ }
     ensures card { λ _. ⌜ take b (now (hand .exit)) ≡ block b from (now (cards .entry)) ⌝ }
-    ensures long { λ _. ⌜ length (now (hand .exit)) ≡ 256 ⌝ }
+    ensures long { λ _. ⌜ length (now (hand .exit)) ≡ BYTES ⌝ }
 {
     let f = from * b;
     let mut i: usize = 0;
@@ -26,8 +26,8 @@ pub fn take_card(cards: &[u8], hand: &mut [u8; 256], b: usize, from: usize)
 }
 
 // The hand goes to slot `to`.
-pub fn lay_card(cards: &mut [u8], hand: &[u8; 256], b: usize, to: usize)
-    requires { ⌜ (to * b + b ≤ length (now cards)) × (b ≤ 256) × (length (now hand) ≡ 256) ⌝ }
+pub fn lay_card(cards: &mut [u8], hand: &[u8; Job::MAX_BYTES], b: usize, to: usize)
+    requires { ⌜ (to * b + b ≤ length (now cards)) × (b ≤ BYTES) × (length (now hand) ≡ BYTES) ⌝ }
     ensures { λ _. ⌜ now (cards .exit) ≡ putBlock b to (take b (now (hand .entry))) (now (cards .entry)) ⌝ }
 {
     let t = to * b;
@@ -41,7 +41,7 @@ pub fn lay_card(cards: &mut [u8], hand: &[u8; 256], b: usize, to: usize)
 // The cards of the chain of slot x and the `left` slots after it, each to the next slot, the last card first; how many copies were made. The
 // table is lent as a reference to a slice, which is one register for each level of the recursion.
 pub fn bring(places: &&[u16], cards: &mut [u8], b: usize, x: usize, left: usize) -> usize
-    requires { ⌜ Inside (now (now places)) left x × (length (now (now places)) ≤ 4096) × (b ≤ 256) × (length (now cards) ≡ length (now (now places)) * b) × (left ≤ 6144) ⌝ }
+    requires { ⌜ Inside (now (now places)) left x × (length (now (now places)) ≤ SLOTS) × (b ≤ BYTES) × (length (now cards) ≡ length (now (now places)) * b) × (left ≤ COPIES) ⌝ }
     ensures count { λ r. ⌜ r ≡ left ⌝ }
     ensures cards { λ _. ⌜ now (cards .exit) ≡ slid b (shift x (steps (next (now (now (places .entry)))) left x)) (now (cards .entry)) ⌝ }
 {
@@ -58,13 +58,13 @@ pub fn bring(places: &&[u16], cards: &mut [u8], b: usize, x: usize, left: usize)
 pub fn bring_walk(
     places: &[u16],
     cards: &mut [u8],
-    hand: &mut [u8; 256],
+    hand: &mut [u8; Job::MAX_BYTES],
     b: usize,
     head: usize,
     left: usize,
     end: u16,
 ) -> usize
-    requires { ⌜ Inside (now places) left head × (length (now places) ≤ 4096) × (end ≢ FREE → end < length (now places)) × (walkCount left end ≤ 6144) × (b ≤ 256) × (length (now cards) ≡ length (now places) * b) × (length (now hand) ≡ 256) ⌝ }
+    requires { ⌜ Inside (now places) left head × (length (now places) ≤ SLOTS) × (end ≢ FREE → end < length (now places)) × (walkCount left end ≤ COPIES) × (b ≤ BYTES) × (length (now cards) ≡ length (now places) * b) × (length (now hand) ≡ BYTES) ⌝ }
     ensures { λ r. ⌜ WalkBrought b (now (places .entry)) head left end (now (cards .entry)) (now (hand .entry)) r (now (cards .exit)) (now (hand .exit)) ⌝ }
 {
     if end == Job::FREE {
@@ -79,14 +79,14 @@ pub fn bring_walk(
 // The cards of the factor of slot k, unless it is marked; how many copies were made.
 pub fn bring_slot(
     places: &[u16],
-    sources: &[u16; 4097],
-    seen: &mut [u8; 4096],
+    sources: &[u16; Job::SOURCES],
+    seen: &mut [u8; Job::MAX_SLOTS],
     cards: &mut [u8],
-    hand: &mut [u8; 256],
+    hand: &mut [u8; Job::MAX_BYTES],
     b: usize,
     k: usize,
 ) -> usize
-    requires { ⌜ Chained (now places) × Sources (now places) (now sources) × (k < length (now places)) × (length (now seen) ≡ 4096) × (length (copies (now places) (due (now places) 1 (now seen) k)) ≤ 6144) × (b ≤ 256) × (length (now cards) ≡ length (now places) * b) × (length (now hand) ≡ 256) ⌝ }
+    requires { ⌜ Chained (now places) × Sources (now places) (now sources) × (k < length (now places)) × (length (now seen) ≡ SLOTS) × (length (copies (now places) (due (now places) 1 (now seen) k)) ≤ COPIES) × (b ≤ BYTES) × (length (now cards) ≡ length (now places) * b) × (length (now hand) ≡ BYTES) ⌝ }
     ensures { λ r. ⌜ SlotBrought b (now (places .entry)) k (now (seen .entry)) (now (cards .entry)) (now (hand .entry)) r (now (seen .exit)) (now (cards .exit)) (now (hand .exit)) ⌝ }
 {
     if seen[k] == 1 {

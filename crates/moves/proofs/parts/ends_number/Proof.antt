@@ -2,7 +2,7 @@ use native.Mathlib.Omega.{arith}
 use Prim.Native.Nat.{_≤_, _<_}
 use mathlib.Core.Path.{_≡_, sym, _∙_}
 use lib.ListN.{length, getD}
-use Rattle.racks.specs.Racks.{slots}
+use Rattle.racks.specs.Racks.{slots, rackOf}
 use Rattle.racks.specs.Table.{rackTo}
 use Rattle.racks.specs.Job.{racksOf}
 use Rattle.racks.proofs.Jobs.{sound-slots}
@@ -75,6 +75,16 @@ returns-4 c =
 element-copy-out-if5 : tie.Need-element-copy-out-if5
 element-copy-out-if5 c = omega (arith, to-lt (c .before .before .before .before .before), small (c .before .before .before .before .before))
 
+-- the card is away: its destination is on another rack than its slot
+is-away : (c : tie.Else4) → rackOf (racksOf (c .before .before .before .before .before .before .before .before .before .args .job)) (c .before .before .before .before .before .before .before .before .before .args .from)
+    ≡ rackTo (racksOf (c .before .before .before .before .before .before .before .before .before .args .job)) (c .before .before .before .before .before .before .before .before .before .args .places .now) (c .before .before .before .before .before .before .before .before .before .args .from) → ⊥
+unfolding rackTo
+is-away c q =
+    let d = c .before .before .before in
+    let e = d .before .before in
+    let s = e .before .before .before .before in
+    c .if4 .left (s .pre .filled _ (from-lt e) ∙ q ∙ sym (s .pre .filled _ (card d)))
+
 returns-5 : tie.Need-returns-5
 unfolding rackTo
 returns-5 c =
@@ -82,8 +92,18 @@ returns-5 c =
     let d = b .before .before .before in
     let e = d .before .before in
     let s = e .before .before .before .before in
-    ends-10 (racksOf (s .args .job)) (s .args .places .now) (s .args .from, s .args .to) (from-lt e) (to-lt e) (d .if3 .left)
-    (λ q. b .if4 .left (s .pre .filled _ (from-lt e) ∙ q ∙ sym (s .pre .filled _ (card d)))) (λ q. c .if5 .taken (s .pre .filled _ (to-lt e) ∙ q ∙ sym (s .pre .filled _ (card d))))
+    ends-10 (racksOf (s .args .job)) (s .args .places .now) (s .args .from, s .args .to) (from-lt e) (to-lt e) (d .if3 .left) (is-away b)
+    (λ q. c .if5 .taken (s .pre .filled _ (to-lt e) ∙ q ∙ sym (s .pre .filled _ (card d))))
+
+-- the target is on the card's destination rack
+meets : (c : tie.Else5) → rackOf (racksOf (c .before .before .before .before .before .before .before .before .before .before .before .args .job)) (c .before .before .before .before .before .before .before .before .before .before .before .args .to)
+    ≡ rackTo (racksOf (c .before .before .before .before .before .before .before .before .before .before .before .args .job)) (c .before .before .before .before .before .before .before .before .before .before .before .args .places .now) (c .before .before .before .before .before .before .before .before .before .before .before .args .from)
+unfolding rackTo
+meets c =
+    let d = c .before .before .before .before .before in
+    let e = d .before .before in
+    let s = e .before .before .before .before in
+    sym (s .pre .filled _ (to-lt e)) ∙ c .if5 .left ∙ s .pre .filled _ (card d)
 
 mul-if6 : tie.Need-mul-if6
 mul-if6 c = let e = c .before .before .before .before .before .before .before in omega (arith, to-lt e, small e)
@@ -92,26 +112,18 @@ shared-slice-read-if6 : tie.Need-shared-slice-read-if6
 shared-slice-read-if6 c = let e = c .before .before .before .before .before .before .before .before in omega (arith, to-lt e, long e)
 
 returns-6 : tie.Need-returns-6
-unfolding rackTo
 returns-6 c =
     let a = c .before .before in
-    let b = a .before .before in
-    let d = b .before .before .before in
-    let e = d .before .before in
-    let s = e .before .before .before .before in
-    ends-11 (racksOf (s .args .job)) (s .args .places .now) (s .args .from, s .args .to) (from-lt e) (to-lt e) (d .if3 .left)
-    (λ q. b .if4 .left (s .pre .filled _ (from-lt e) ∙ q ∙ sym (s .pre .filled _ (card d)))) (sym (s .pre .filled _ (to-lt e)) ∙ a .if5 .left ∙ s .pre .filled _ (card d)) (c .if6 .taken)
+    let d = a .before .before .before .before .before in
+    let s = d .before .before .before .before .before .before in
+    ends-11 (racksOf (s .args .job)) (s .args .places .now) (s .args .from, s .args .to) (from-lt (d .before .before)) (to-lt (d .before .before)) (d .if3 .left) (is-away (a .before .before)) (meets a) (c .if6 .taken)
 
 returns-7 : tie.Need-returns-7
-unfolding rackTo
 returns-7 c =
     let a = c .before .before in
-    let b = a .before .before in
-    let d = b .before .before .before in
-    let e = d .before .before in
-    let s = e .before .before .before .before in
-    ends-0 (racksOf (s .args .job)) (s .args .places .now) (s .args .from, s .args .to) (from-lt e) (to-lt e) (d .if3 .left)
-    (λ q. b .if4 .left (s .pre .filled _ (from-lt e) ∙ q ∙ sym (s .pre .filled _ (card d)))) (sym (s .pre .filled _ (to-lt e)) ∙ a .if5 .left ∙ s .pre .filled _ (card d)) (c .if6 .left)
+    let d = a .before .before .before .before .before in
+    let s = d .before .before .before .before .before .before in
+    ends-0 (racksOf (s .args .job)) (s .args .places .now) (s .args .from, s .args .to) (from-lt (d .before .before)) (to-lt (d .before .before)) (d .if3 .left) (is-away (a .before .before)) (meets a) (c .if6 .left)
 
 pub ends-number-spec : {M : Type 1} → statement M
 ends-number-spec =
