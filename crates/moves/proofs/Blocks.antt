@@ -2,7 +2,7 @@
 use mathlib.Core.Path.{_≡_, sym, _∙_}
 use mathlib.Core.Logic.{_≢_}
 use mathlib.Core.List.{List, _++_, append-assoc}
-use Prim.Native.Nat.{ℕ, zero, suc, _+_, _*_, _≤_, _<_}
+use Prim.Native.Nat.{ℕ, zero, suc, _+_, _*_, _-_, _≤_, _<_}
 use native.Mathlib.Nat.{suc-mul, zero-mul, mul-le-mul-right, add-comm}
 use native.Mathlib.Omega.{arith}
 use native.Mathlib.Decide.{ℕ-discrete, decLt}
@@ -29,6 +29,11 @@ module _ (b g : ℕ) (cards : List ℕ) where
   pub block-long : g * b + b ≤ length cards → length (block b g cards) ≡ b
   unfolding block
   block-long l = length-take-le b (drop (g * b) cards) (simp length-drop (omega arith))
+
+  -- as the code takes a part of the buffer, from one end to the other
+  pub block-part : take (g * b + b - g * b) (drop (g * b) cards) ≡ block b g cards
+  unfolding block
+  block-part = let e : g * b + b - g * b ≡ b = omega arith in rw e
 
 -- a store keeps the length of the buffer
 pub length-put : (b g : ℕ) (bytes cards : List ℕ) → length (putBlock b g bytes cards) ≡ length cards

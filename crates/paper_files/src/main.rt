@@ -24,8 +24,8 @@ fn say_behind_two(file: &[u8], caps: &mut [u16], places: &mut [u16]) {
 }
 
 fn say_lists(caps: &[u16], places: &[u16]) {
-    say::say_list(b" capacities", caps);
-    say::say_list(b" places", places);
+    saying::parts::say_numbers(b" capacities", caps);
+    saying::parts::say_numbers(b" places", places);
     io::write_all(1, b"\n");
 }
 

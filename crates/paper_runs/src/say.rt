@@ -22,18 +22,3 @@ pub fn say_steps(lent: &[u16]) {
     }
     io::write_all(1, b"\n");
 }
-
-fn say_byte(x: u8) {
-    io::write_all(1, b" ");
-    io::print_hex(1, x as u64, 2);
-}
-
-pub fn say_cards(cards: &[u8]) {
-    io::write_all(1, b" cards");
-    let mut i: usize = 0;
-    while i < cards.len() {
-        say_byte(cards[i]);
-        i = i + 1;
-    }
-    io::write_all(1, b"\n");
-}

@@ -10,16 +10,12 @@ fn say_copies(name: &[u8], caps: &[u16], places: &[u16], lent: &mut [u16]) {
 
 fn say_shuffle(name: &[u8], caps: &[u16], b: usize, places: &mut [u16], cards: &mut [u8]) {
     let answer = shuffle::shuffle_cards(caps, b, places, cards);
-    saying::parts::say_answer(name, answer);
-    saying::parts::say_numbers(b" places", places);
-    say::say_cards(cards);
+    saying::parts::say_outcome(name, answer, places, cards);
 }
 
 fn say_run(name: &[u8], caps: &[u16], b: usize, places: &mut [u16], cards: &mut [u8]) {
     let answer = runs::whole_run(caps, b, places, cards);
-    saying::parts::say_answer(name, answer);
-    saying::parts::say_numbers(b" places", places);
-    say::say_cards(cards);
+    saying::parts::say_outcome(name, answer, places, cards);
 }
 
 // The copy list of case 3, and those after the phases of cases 1, 4 and 5.

@@ -57,3 +57,26 @@ pub fn say_bytes(cards: &[u8], n: usize) {
     }
     io::write_all(1, b"\n");
 }
+
+fn say_hex(x: u8) {
+    io::write_all(1, b" ");
+    io::print_hex(1, x as u64, 2);
+}
+
+// The bytes of the cards, two hexadecimal digits each.
+pub fn say_cards(cards: &[u8]) {
+    io::write_all(1, b" cards");
+    let mut i: usize = 0;
+    while i < cards.len() {
+        say_hex(cards[i]);
+        i = i + 1;
+    }
+}
+
+// What a call that is lent a table and cards gives, and leaves in them.
+pub fn say_outcome(name: &[u8], answer: Answer, places: &[u16], cards: &[u8]) {
+    say_answer(name, answer);
+    say_numbers(b" places", places);
+    say_cards(cards);
+    io::write_all(1, b"\n");
+}

@@ -18,24 +18,15 @@ pub fn take_card(cards: &[u8], hand: &mut [u8; Job::MAX_BYTES], b: usize, from: 
     ensures long { λ _. ⌜ length (now (hand .exit)) ≡ BYTES ⌝ }
 {
     let f = from * b;
-    let mut i: usize = 0;
-    while i < b {
-        hand[i] = cards[f + i];
-        i = i + 1;
-    }
+    racks::parts::put_bytes(hand, 0, &cards[f..f + b]);
 }
 
 // The hand goes to slot `to`.
-pub fn lay_card(cards: &mut [u8], hand: &[u8; Job::MAX_BYTES], b: usize, to: usize)
+pub fn lay_card(cards: &mut [u8], hand: &[u8], b: usize, to: usize)
     requires { ⌜ (to * b + b ≤ length (now cards)) × (b ≤ BYTES) × (length (now hand) ≡ BYTES) ⌝ }
     ensures { λ _. ⌜ now (cards .exit) ≡ putBlock b to (take b (now (hand .entry))) (now (cards .entry)) ⌝ }
 {
-    let t = to * b;
-    let mut i: usize = 0;
-    while i < b {
-        cards[t + i] = hand[i];
-        i = i + 1;
-    }
+    racks::parts::put_bytes(cards, to * b, &hand[..b]);
 }
 
 // The cards of the chain of slot x and the `left` slots after it, each to the next slot, the last card first; how many copies were made. The

@@ -10,13 +10,8 @@ pub fn put_text(out: &mut [u8], at: usize, word: &[u8]) -> usize
     requires { ⌜ Room (now word) at (now out) ⌝ }
     ensures { λ r. ⌜ Wrote (now (word .entry)) (now (out .entry)) at (now (out .exit)) r ⌝ }
 {
-    let n = word.len();
-    let mut i: usize = 0;
-    while i < n {
-        out[at + i] = word[i];
-        i = i + 1;
-    }
-    at + n
+    racks::parts::put_bytes(out, at, word);
+    at + word.len()
 }
 
 // One byte.

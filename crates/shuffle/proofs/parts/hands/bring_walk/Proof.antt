@@ -36,25 +36,25 @@ bring-requires-2 c κs =
 
 lay-card-requires : tie.Need-lay-card-requires
 lay-card-requires c κs =
-    let s = c .before .before .before .before .before .before .before .before .before .before .before .before .before .before in
-    (slid-within (s .args .b) _ (s .args .head) _ _ _ (c .before .before .before .before .bring2 .ensures .1) (s .pre .5) (inside-here (s .args .t1 .now) (s .args .left) (s .args .head) (s .pre .0)), s .pre .4, c .before .before .before .before .before .before .before .take-card .ensures .1)
+    let s = c .before .before .before .before .before .before .before .before .before .before .before .before .before .before .before in
+    (slid-within (s .args .b) _ (s .args .head) _ _ _ (c .before .before .before .before .before .bring2 .ensures .1) (s .pre .5) (inside-here (s .args .t1 .now) (s .args .left) (s .args .head) (s .pre .0)), s .pre .4, c .before .before .before .before .before .before .before .before .take-card .ensures .1)
 
 add-result : tie.Need-add-result
 add-result c =
-    let s = c .before .before .before .before .before .before .before .before .before .before .before .before .before .before .before .before .before in
-    omega (arith, c .before .before .before .before .before .before .before .bring2 .ensures .0, count-hand (s .args .left) (s .args .end) (c .before .before .before .before .before .before .before .before .before .before .before .before .before .before .if1 .left), s .pre .3)
+    let s = c .before .before .before .before .before .before .before .before .before .before .before .before .before .before .before .before .before .before in
+    omega (arith, c .before .before .before .before .before .before .before .before .bring2 .ensures .0, count-hand (s .args .left) (s .args .end) (c .before .before .before .before .before .before .before .before .before .before .before .before .before .before .before .if1 .left), s .pre .3)
 
 same-length-2 : tie.Need-same-length-2
 same-length-2 c = search needs
 
 returns-2 : tie.Need-returns-2
 returns-2 c =
-    let s = c .before .before .before .before .before .before .before .before .before .before .before .before .before .before .before .before .before in
-    let q = c .before .before .before .before .before .before .before .before .before .before .before .before .before .before .if1 .left in
-    let w = c .before .before .before .before .before .before .before .bring2 in
-    let t = c .before .before .before .before .before .before .before .before .before .before .take-card in
+    let s = c .before .before .before .before .before .before .before .before .before .before .before .before .before .before .before .before .before .before in
+    let q = c .before .before .before .before .before .before .before .before .before .before .before .before .before .before .before .if1 .left in
+    let w = c .before .before .before .before .before .before .before .before .bring2 in
+    let t = c .before .before .before .before .before .before .before .before .before .before .before .take-card in
     brought-hand (s .args .b) (s .args .t1 .now) (s .args .head) (s .args .left) (s .args .end) (s .pre .0) (s .pre .1) (s .args .cards .now) (s .args .hand .now) (s .pre .6) q (s .pre .2 q) (w .result) _ _ _ _
-    (w .ensures .0) (c .before .before .before .before .before .before .before .before .before .before .before .wide .ensures) (t .ensures .0) (t .ensures .1) (w .ensures .1) (c .before .before .lay-card .ensures)
+    (w .ensures .0) (c .before .before .before .before .before .before .before .before .before .before .before .before .wide .ensures) (t .ensures .0) (t .ensures .1) (w .ensures .1) (c .before .before .lay-card .ensures)
 
 pub bring-walk-spec : {M : Type 1} → statement M
 bring-walk-spec =

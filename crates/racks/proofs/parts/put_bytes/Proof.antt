@@ -1,17 +1,18 @@
+-- `racks::parts::put_bytes` meets its contract. Assumes nothing.
 use Prim.Native.Nat.{_≤_, _-_}
-use mathlib.Core.Path.{_≡_, refl}
+use mathlib.Core.Path.{_≡_, refl, sym, ap, _∙_}
 use native.Mathlib.Omega.{arith}
 use lib.ListN.{length, take, length-set}
-use lib.Seq.{sets}
-use Rattle.texts.proofs.Writing.{taken-next, taken-all}
-use Rattle.texts.proofs.parts.words.put_text.Statement.{statement}
-use Rattle.texts.proofs.parts.words.put_text.Tie as tie
+use lib.Seq.{sets, take-all}
+use Rattle.counting.proofs.Stores.{sets-take}
+use Rattle.racks.proofs.parts.put_bytes.Statement.{statement}
+use Rattle.racks.proofs.parts.put_bytes.Tie as tie
 
 abbrev Inv-loop : tie.InvT-loop
-Inv-loop out₀ at word n i₀ out i = (i ≤ length word) × (length out ≡ length out₀) × (out ≡ sets out₀ at (take i word))
+Inv-loop out₀ at bytes n i₀ out i = (i ≤ length bytes) × (length out ≡ length out₀) × (out ≡ sets out₀ at (take i bytes))
 
 abbrev μ-loop : tie.MeasureT-loop
-μ-loop out₀ at word n i₀ out i = n - i
+μ-loop out₀ at bytes n i₀ out i = n - i
 
 loop-holds : tie.Need-loop-holds Inv-loop μ-loop
 loop-holds c = (omega arith, refl, refl)
@@ -35,10 +36,7 @@ loop-again : tie.Need-loop-again Inv-loop μ-loop
 loop-again c =
     let s = c .before .before .before in
     let l = c .before .before .loop in
-    (omega arith, simp length-set (l .inv .1), taken-next (s .args .word .now) (s .args .out .now) (s .args .at) _ _ (omega arith) (l .inv .2))
-
-add-result : tie.Need-add-result Inv-loop μ-loop
-add-result c = omega arith
+    (omega arith, simp length-set (l .inv .1), rw (l .inv .2) (sym (sets-take (s .args .bytes .now) (s .args .out .now) (s .args .at) (l .i) (omega arith))))
 
 same-length : tie.Need-same-length Inv-loop μ-loop
 same-length c = omega arith
@@ -46,10 +44,10 @@ same-length c = omega arith
 returns : tie.Need-returns Inv-loop μ-loop
 returns c =
     let s = c .before .before in
-    taken-all (s .args .word .now) (s .args .out .now) (s .args .at) _ (c .before .loop .i) (omega arith) (c .before .loop .inv .2)
+    c .before .loop .inv .2 ∙ ap (sets (s .args .out .now) (s .args .at)) (take-all (c .before .loop .i) (s .args .bytes .now) (omega arith))
 
-pub put-text-spec : {M : Type 1} → statement M
-put-text-spec =
+pub put-bytes-spec : {M : Type 1} → statement M
+put-bytes-spec =
     tie.close
     (tie.spec
     Inv-loop
@@ -61,6 +59,5 @@ put-text-spec =
     add-i
     loop-less
     loop-again
-    add-result
     same-length
     returns)

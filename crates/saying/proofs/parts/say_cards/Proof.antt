@@ -1,15 +1,18 @@
--- `paper_files::say::say_list` meets its contract. Assumes nothing.
+-- `saying::say::say_cards` meets its contract. Assumes nothing.
 use Prim.Native.Nat.{_-_, _≤_}
 use lib.ListN.{length}
 use borrow.Author.Needs.{needs}
-use Rattle.paper_files.proofs.say.say_list.Statement.{statement}
-use Rattle.paper_files.proofs.say.say_list.Tie as tie
+use Rattle.saying.proofs.parts.say_cards.Statement.{statement}
+use Rattle.saying.proofs.parts.say_cards.Tie as tie
 
 abbrev Inv-loop : tie.InvT-loop
-Inv-loop name list i₀ i = i ≤ length list
+Inv-loop cards i₀ i = i ≤ length cards
 
 abbrev μ-loop : tie.MeasureT-loop
-μ-loop name list i₀ i = length list - i
+μ-loop cards i₀ i = length cards - i
+
+slice-aggregate-write-all : tie.Need-slice-aggregate-write-all Inv-loop μ-loop
+slice-aggregate-write-all c = search needs
 
 write-all-requires : tie.Need-write-all-requires Inv-loop μ-loop
 write-all-requires c κs = search needs
@@ -17,14 +20,11 @@ write-all-requires c κs = search needs
 loop-holds : tie.Need-loop-holds Inv-loop μ-loop
 loop-holds c = search needs
 
-mul-say-entry : tie.Need-mul-say-entry Inv-loop μ-loop
-mul-say-entry c = search needs
+shared-slice-read-say-hex : tie.Need-shared-slice-read-say-hex Inv-loop μ-loop
+shared-slice-read-say-hex c = search needs
 
-shared-slice-read-say-entry : tie.Need-shared-slice-read-say-entry Inv-loop μ-loop
-shared-slice-read-say-entry c = search needs
-
-say-entry-requires : tie.Need-say-entry-requires Inv-loop μ-loop
-say-entry-requires c κs = search needs
+say-hex-requires : tie.Need-say-hex-requires Inv-loop μ-loop
+say-hex-requires c κs = search needs
 
 add-i : tie.Need-add-i Inv-loop μ-loop
 add-i c = search needs
@@ -38,17 +38,17 @@ loop-again c = search needs
 returns : tie.Need-returns Inv-loop μ-loop
 returns c = search needs
 
-pub say-list-spec : {M : Type 1} → statement M
-say-list-spec =
+pub say-cards-spec : {M : Type 1} → statement M
+say-cards-spec =
     tie.close
     (tie.spec
     Inv-loop
     μ-loop
+    slice-aggregate-write-all
     write-all-requires
     loop-holds
-    mul-say-entry
-    shared-slice-read-say-entry
-    say-entry-requires
+    shared-slice-read-say-hex
+    say-hex-requires
     add-i
     loop-less
     loop-again
