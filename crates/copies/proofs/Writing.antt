@@ -22,7 +22,7 @@ use Rattle.copies.specs.parts.Writes.{putCopies, steps, Inside, walked, 
 use Rattle.counting.specs.Every.{In}
 use Rattle.counting.proofs.Stores.{length-flat, flat-append, sets-append, sets-take}
 use Rattle.copies.proofs.Walks.{Path, after-stop}
-use Rattle.copies.proofs.Chains.{onward-low, onward-path, onward-end, on-cycle, head-cases, head-low, cycle-source, cycle-ends, shift-ends, source-low}
+use Rattle.copies.proofs.Chains.{next-is, onward-low, onward-path, onward-end, on-cycle, head-cases, head-low, cycle-source, cycle-ends, shift-ends, source-low}
 use Rattle.copies.proofs.Walking.{mark-more}
 use Rattle.copies.proofs.Behind.{behind-count, behind-among}
 use Rattle.copies.proofs.Costs.{length-shift, copies-shift, copies-cycle}
@@ -82,11 +82,15 @@ unfolding Inside
 inside-here places zero x h = h
 inside-here places (suc n) x h = h .0
 
+-- the entry there is the next slot
+pub inside-step : (places : List ℕ) (n x y : ℕ) → Inside places n x → y ≡ getD places x 0 → y ≡ next places x
+inside-step places n x y h e = e ∙ sym (next-is places x (inside-here places n x h))
+
 -- what follows it, from the next slot on
-pub inside-next : (places : List ℕ) (n x y : ℕ) → n ≢ 0 → y ≡ next places x → Inside places n x → Inside places (n - 1) y
+pub inside-next : (places : List ℕ) (n x y : ℕ) → Inside places n x → y ≡ getD places x 0 → n ≢ 0 → Inside places (n - 1) y
 unfolding Inside
-inside-next places zero x y q e h = absurd (q refl)
-inside-next places (suc n) x y q e h = let i : suc n - 1 ≡ n = omega arith in rw (i, e) (h .1)
+inside-next places zero x y h e q = absurd (q refl)
+inside-next places (suc n) x y h e q = let i : suc n - 1 ≡ n = omega arith in rw (i, inside-step places (suc n) x y h e) (h .1)
 
 inside-path : (places : List ℕ) (s x : ℕ) (l : List ℕ) → Path (next places) s x l → ((v : ℕ) → In v (x ∷ l) → v < length places) → Inside places (length l) x
 unfolding Inside
@@ -99,14 +103,15 @@ unfolding shift steps
 shift-none list f at n x e = rw e (sym (put-none list at))
 
 -- the copies of what follows, and then the copy from x to the slot after it
-pub shift-more : (list l m : List ℕ) (f : ℕ → ℕ) (at n x y e b : ℕ) → n ≢ 0 → y ≡ f x → b ≡ y → e ≡ at + (n - 1)
-    → l ≡ putCopies list at (shift y (steps f (n - 1) y)) → m ≡ putCopies l e ((x, b) ∷ []) → m ≡ putCopies list at (shift x (steps f n x))
+pub shift-more : (places list l m : List ℕ) (at n x y e : ℕ) → Inside places n x → y ≡ getD places x 0 → n ≢ 0 → e ≡ at + (n - 1)
+    → l ≡ putCopies list at (shift y (steps (next places) (n - 1) y)) → m ≡ putCopies l e ((x, getD places x 0) ∷ []) → m ≡ putCopies list at (shift x (steps (next places) n x))
 unfolding shift steps
-shift-more list l m f at zero x y e b q i j k p r = absurd (q refl)
-shift-more list l m f at (suc n) x y e b q i j k p r =
+shift-more places list l m at zero x y e h i q k p r = absurd (q refl)
+shift-more places list l m at (suc n) x y e h i q k p r =
+    let f : ℕ → ℕ = next places in
     let z : suc n - 1 ≡ n = omega arith in
     let d : e ≡ at + length (shift y (steps f n y)) = omega (arith, length-shift y (steps f n y), length-steps f n y) in
-    r ∙ rw (p, z, j, d, ← i) (sym (put-append list at (shift y (steps f n y)) ((x, y) ∷ [])))
+    r ∙ rw (p, z, ← i, d, ← inside-step places (suc n) x y h i) (sym (put-append list at (shift y (steps f n y)) ((x, y) ∷ [])))
 
 -- a factor has a copy for each slot that follows, at least
 pub walk-left : (n end : ℕ) → n ≤ walkCount n end

@@ -16,7 +16,7 @@ use Rattle.copies.specs.Copies.{next, shift, copies, copyList}
 use Rattle.copies.specs.parts.Chains.{Chained}
 use Rattle.copies.specs.parts.Writes.{steps, Inside, walkCount, Unmarked, due, Walked}
 use Rattle.copies.proofs.Tallied.{plus-none, plus-both}
-use Rattle.copies.proofs.Writing.{inside-here, walked-shift, walked-hand, count-shift, count-hand}
+use Rattle.copies.proofs.Writing.{inside-here, inside-step, walked-shift, walked-hand, count-shift, count-hand}
 use Rattle.copies.proofs.Progress.{Progress, progress-start, progress-end, progress-room, progress-more, few-copies, marked-none, counted-none, counted-due, due-copies}
 use Rattle.shuffle.specs.Shuffle.{Hands, taken, laid, runCopies, brought}
 use Rattle.shuffle.specs.parts.Hands.{handed, copyMade, slid, HandedAs, WalkBrought, SlotBrought, AllBrought}
@@ -77,12 +77,13 @@ unfolding shift steps slid
 slid-none b n x f cards e = rw e
 
 -- those of the slots after x, and then x's
-pub slid-more : (b n x y : ℕ) (f : ℕ → ℕ) (cards l m : List ℕ) → n ≢ 0 → y ≡ f x → l ≡ slid b (shift y (steps f (n - 1) y)) cards → m ≡ putBlock b y (block b x l) l → m ≡ slid b (shift x (steps f n x)) cards
+pub slid-more : (b n x y : ℕ) (places cards l m : List ℕ) → Inside places n x → y ≡ getD places x 0 → n ≢ 0 → l ≡ slid b (shift y (steps (next places) (n - 1) y)) cards → m ≡ putBlock b y (block b x l) l
+    → m ≡ slid b (shift x (steps (next places) n x)) cards
 unfolding shift steps
-slid-more b zero x y f cards l m q e p r = absurd (q refl)
-slid-more b (suc n) x y f cards l m q e p r =
+slid-more b zero x y places cards l m h e q p r = absurd (q refl)
+slid-more b (suc n) x y places cards l m h e q p r =
     let z : suc n - 1 ≡ n = omega arith in
-    r ∙ rw (p, z, ← e) (sym (slid-snoc b (shift y (steps f n y)) (x, y) cards))
+    r ∙ rw (p, z, ← inside-step places (suc n) x y h e) (sym (slid-snoc b (shift y (steps (next places) n y)) (x, y) cards))
 
 -- a chain of slots is run without the hand
 pub run-chain : (b : ℕ) (places cards hand : List ℕ) (n x : ℕ) → Inside places n x → length places ≤ 4096

@@ -36,7 +36,7 @@ write-shift-requires-2 c κs =
     (s .pre .0, s .pre .1, omega (arith, e), omega (arith, e, put-long _ _ _ _ (c .before .before .before .before .put-copy .ensures)))
 
 cast-put-copy : tie.Need-cast-put-copy
-cast-put-copy c = let s = c .before .before .before .before .before .before .before .before .before .before .before .before .before in omega (arith, inside-here (s .args .t1 .now) (s .args .left) (s .args .head) (s .pre .0), s .pre .1)
+cast-put-copy c = let s = c .before .before .before .before .before .before .before .before .before .before .before .before .before in omega (arith, inside-here _ _ _ (s .pre .0), s .pre .1)
 
 put-copy-requires-2 : tie.Need-put-copy-requires-2
 put-copy-requires-2 c κs =

@@ -1,162 +1,86 @@
 use borrow.Author.Needs.{needs}
-use mathlib.Core.Path.{sym, _∙_}
-use Rattle.shuffle.proofs.Copying.{slid-none, slid-more, slid-within, slid-long}
-use Rattle.copies.proofs.Chains.{next-is}
-use Rattle.copies.proofs.Writing.{inside-here, inside-next}
-use native.Mathlib.Omega.{arith}
-use Prim.Native.Nat.{ℕ, _<_, _-_}
 use borrow.Fn.Kinds.{In}
-use borrow.Fn.PlainCycle.{Measures, is, falls, and}
-use Rattle.shuffle.proofs.parts.hands.bring.Reads as bring
-use Rattle.shuffle.proofs.parts.hands.bring.Kinds as bring-kinds
-use Rattle.shuffle.proofs.parts.hands.+bring.Lts-bring as bring-lts
-use Rattle.copies.proofs.parts.wide.Reads as wide-reads
-use Rattle.moves.proofs.parts.copy_card.Reads as copy-card-reads
+use borrow.Fn.PlainCycle.{Measures}
+use mathlib.Core.Path.{_≡_}
+use Prim.Native.Nat.{ℕ, _<_}
+use native.Mathlib.Omega.{arith}
+use Rattle.copies.proofs.Writing.{inside-here, inside-next}
+use Rattle.copies.proofs.parts.wide.Reads as wide
+use Rattle.moves.proofs.parts.copy_card.Reads as copy-card
+use Rattle.shuffle.proofs.Copying.{slid-none, slid-more, slid-within, slid-long}
+use Rattle.shuffle.proofs.parts.hands.bring.Reads as self
+use Rattle.shuffle.proofs.parts.hands.bring.Kinds as kinds
+use Rattle.shuffle.proofs.parts.hands.+bring.Lts-bring as lts
 use Rattle.shuffle.proofs.parts.hands.+bring.{statement}
 use Rattle.shuffle.proofs.parts.hands.+bring.Tie.{close}
 
-abbrev μ-bring : Measures 3 bring-kinds.ps ℕ
-μ-bring κs a = a .1 .1 .1 .1 .0
+abbrev slots-left : Measures 3 kinds.ps ℕ
+slots-left κs a = a .1 .1 .1 .1 .0
 
-abbrev bring-at : ℕ → In 3 bring-kinds.ps
-bring-at t = and 3 bring-kinds.ps (is 3 bring-kinds.ps μ-bring t) bring.Pre
+module _ (t : ℕ) where
+  -- a call with t slots left
+  abbrev this : In 3 kinds.ps
+  this κs a = (slots-left κs a ≡ t) × self.Pre κs a
 
-abbrev bring-below : ℕ → In 3 bring-kinds.ps
-bring-below t = and 3 bring-kinds.ps (falls 3 bring-kinds.ps _<_ μ-bring t) bring.Pre
+  -- the calls in it, its own with fewer
+  abbrev calls : lts.Claims
+  calls = (wide.Asked, wide.Learnt, λ κs a. (slots-left κs a < t) × self.Pre κs a, self.Post, copy-card.Asked, copy-card.Learnt)
 
-bring-returns : (t : ℕ) → bring-lts.Need-returns (
-  wide-reads.Asked,
-  wide-reads.Learnt,
-  bring-below t,
-  bring.Post,
-  copy-card-reads.Asked,
-  copy-card-reads.Learnt,
-) (bring-at t) bring.Post
-bring-returns t c = (omega arith, slid-none _ _ _ _ _ (c .if1 .taken))
+  wide-requires : lts.Need-wide-requires calls this self.Post
+  wide-requires c κs = search needs
 
-bring-mul-wide : (t : ℕ) → bring-lts.Need-mul-wide (
-  wide-reads.Asked,
-  wide-reads.Learnt,
-  bring-below t,
-  bring.Post,
-  copy-card-reads.Asked,
-  copy-card-reads.Learnt,
-) (bring-at t) bring.Post
-bring-mul-wide t c = let s = c .before .before in omega (arith, inside-here (s .args .places .now .now) (s .args .left) (s .args .x) (s .pre .1 .0), s .pre .1 .1)
+  bring-requires : lts.Need-bring-requires calls this self.Post
+  bring-requires c κs =
+      let p = c .before .before .before .before .before .pre .1 in
+      (omega arith, (inside-next _ _ _ _ (p .0) (c .before .wide .ensures) (omega arith), p .1, p .2, p .3, omega arith))
 
-bring-index-1-wide : (t : ℕ) → bring-lts.Need-index-1-wide (
-  wide-reads.Asked,
-  wide-reads.Learnt,
-  bring-below t,
-  bring.Post,
-  copy-card-reads.Asked,
-  copy-card-reads.Learnt,
-) (bring-at t) bring.Post
-bring-index-1-wide t c = let s = c .before .before in inside-here (s .args .places .now .now) (s .args .left) (s .args .x) (s .pre .1 .0)
+  copy-card-requires : lts.Need-copy-card-requires calls this self.Post
+  copy-card-requires c κs =
+      let p = c .before .before .before .before .before .before .before .before .before .pre .1 in
+      let w = c .before .before .before .bring .ensures .1 in
+      let f = slid-within _ _ _ _ _ _ w (p .3) (inside-here _ _ _ (p .0)) in
+      let t = slid-within _ _ _ _ _ _ w (p .3) (inside-here _ _ _ (inside-next _ _ _ _ (p .0) (c .before .before .before .before .before .wide .ensures) (omega arith))) in
+      (omega (arith, f, t), omega (arith, f, t))
 
-bring-wide-requires : (t : ℕ) → bring-lts.Need-wide-requires (
-  wide-reads.Asked,
-  wide-reads.Learnt,
-  bring-below t,
-  bring.Post,
-  copy-card-reads.Asked,
-  copy-card-reads.Learnt,
-) (bring-at t) bring.Post
-bring-wide-requires t c κs = search needs
+  index-1-wide : lts.Need-index-1-wide calls this self.Post
+  index-1-wide c = inside-here _ _ _ (c .before .before .pre .1 .0)
 
-bring-sub-bring : (t : ℕ) → bring-lts.Need-sub-bring (
-  wide-reads.Asked,
-  wide-reads.Learnt,
-  bring-below t,
-  bring.Post,
-  copy-card-reads.Asked,
-  copy-card-reads.Learnt,
-) (bring-at t) bring.Post
-bring-sub-bring t c = omega arith
+  mul-wide : lts.Need-mul-wide calls this self.Post
+  mul-wide c = let p = c .before .before .pre .1 in omega (arith, inside-here _ _ _ (p .0), p .1)
 
-bring-bring-requires : (t : ℕ) → bring-lts.Need-bring-requires (
-  wide-reads.Asked,
-  wide-reads.Learnt,
-  bring-below t,
-  bring.Post,
-  copy-card-reads.Asked,
-  copy-card-reads.Learnt,
-) (bring-at t) bring.Post
-bring-bring-requires t c κs =
-    let s = c .before .before .before .before .before in
-    let e = c .before .wide .ensures ∙ sym (next-is (s .args .places .now .now) (s .args .x) (inside-here (s .args .places .now .now) (s .args .left) (s .args .x) (s .pre .1 .0))) in
-    (omega arith, (inside-next (s .args .places .now .now) (s .args .left) (s .args .x) (c .before .wide .result) (omega arith) e (s .pre .1 .0), s .pre .1 .1, s .pre .1 .2, s .pre .1 .3, omega arith))
+  sub-bring : lts.Need-sub-bring calls this self.Post
+  sub-bring c = omega arith
 
-bring-copy-card-requires : (t : ℕ) → bring-lts.Need-copy-card-requires (
-  wide-reads.Asked,
-  wide-reads.Learnt,
-  bring-below t,
-  bring.Post,
-  copy-card-reads.Asked,
-  copy-card-reads.Learnt,
-) (bring-at t) bring.Post
-bring-copy-card-requires t c κs =
-    let s = c .before .before .before .before .before .before .before .before .before in
-    let e = c .before .before .before .before .before .wide .ensures ∙ sym (next-is (s .args .places .now .now) (s .args .x) (inside-here (s .args .places .now .now) (s .args .left) (s .args .x) (s .pre .1 .0))) in
-    let i = inside-next (s .args .places .now .now) (s .args .left) (s .args .x) (c .before .before .before .before .before .wide .result) (omega arith) e (s .pre .1 .0) in
-    let w = c .before .before .before .bring .ensures .1 in
-    let f = slid-within (s .args .b) _ (s .args .x) _ _ _ w (s .pre .1 .3) (inside-here (s .args .places .now .now) (s .args .left) (s .args .x) (s .pre .1 .0)) in
-    let t = slid-within (s .args .b) _ (c .before .before .before .before .before .wide .result) _ _ _ w (s .pre .1 .3) (inside-here (s .args .places .now .now) (s .args .left - 1) (c .before .before .before .before .before .wide .result) i) in
-    (omega (arith, f, t), omega (arith, f, t))
+  add-result : lts.Need-add-result calls this self.Post
+  add-result c =
+      let l = c .before .before .before .before .before .before in
+      omega (arith, l .bring .ensures .0, l .before .before .before .before .before .before .pre .1 .4)
 
-bring-add-result : (t : ℕ) → bring-lts.Need-add-result (
-  wide-reads.Asked,
-  wide-reads.Learnt,
-  bring-below t,
-  bring.Post,
-  copy-card-reads.Asked,
-  copy-card-reads.Learnt,
-) (bring-at t) bring.Post
-bring-add-result t c = let s = c .before .before .before .before .before .before .before .before .before .before .before .before in omega (arith, c .before .before .before .before .before .before .bring .ensures .0, s .pre .1 .4)
+  same-length : lts.Need-same-length calls this self.Post
+  same-length c = slid-long _ _ _ _ _ _ _ (c .before .before .before .before .before .before .bring .ensures .1) (c .before .before .copy-card .ensures)
 
-bring-same-length : (t : ℕ) → bring-lts.Need-same-length (
-  wide-reads.Asked,
-  wide-reads.Learnt,
-  bring-below t,
-  bring.Post,
-  copy-card-reads.Asked,
-  copy-card-reads.Learnt,
-) (bring-at t) bring.Post
-bring-same-length t c = slid-long _ _ _ _ _ _ _ (c .before .before .before .before .before .before .bring .ensures .1) (c .before .before .copy-card .ensures)
+  returns : lts.Need-returns calls this self.Post
+  returns c = (omega arith, slid-none _ _ _ _ _ (c .if1 .taken))
 
-bring-returns-2 : (t : ℕ) → bring-lts.Need-returns-2 (
-  wide-reads.Asked,
-  wide-reads.Learnt,
-  bring-below t,
-  bring.Post,
-  copy-card-reads.Asked,
-  copy-card-reads.Learnt,
-) (bring-at t) bring.Post
-bring-returns-2 t c =
-    let s = c .before .before .before .before .before .before .before .before .before .before .before .before in
-    let w = c .before .before .before .before .before .before .bring in
-    let y = c .before .before .before .before .before .before .before .before .wide in
-    let e = c .before .before .before .before .before .before .before .before .wide .ensures ∙ sym (next-is (s .args .places .now .now) (s .args .x) (inside-here (s .args .places .now .now) (s .args .left) (s .args .x) (s .pre .1 .0))) in
-    (omega (arith, w .ensures .0), slid-more (s .args .b) (s .args .left) (s .args .x) (y .result) _ (s .args .cards .now) _ _ (omega arith) e (w .ensures .1) (c .before .before .copy-card .ensures))
+  returns-2 : lts.Need-returns-2 calls this self.Post
+  returns-2 c =
+      let l = c .before .before .before .before .before .before in
+      let w = l .bring .ensures in
+      (omega (arith, w .0), slid-more _ _ _ _ _ _ _ _ (l .before .before .before .before .before .before .pre .1 .0) (l .before .before .wide .ensures) (omega arith) (w .1) (c .before .before .copy-card .ensures))
 
 pub +bring-spec : {M : Type 1} → statement M
-+bring-spec = close μ-bring λ t. bring-lts.spec (
-  wide-reads.Asked,
-  wide-reads.Learnt,
-  bring-below t,
-  bring.Post,
-  copy-card-reads.Asked,
-  copy-card-reads.Learnt,
-)
-    (bring-at t)
-    bring.Post
-    (bring-returns t)
-    (bring-mul-wide t)
-    (bring-index-1-wide t)
-    (bring-wide-requires t)
-    (bring-sub-bring t)
-    (bring-bring-requires t)
-    (bring-copy-card-requires t)
-    (bring-add-result t)
-    (bring-same-length t)
-    (bring-returns-2 t)
++bring-spec =
+    close slots-left λ t. lts.spec
+    (calls t)
+    (this t)
+    self.Post
+    (returns t)
+    (mul-wide t)
+    (index-1-wide t)
+    (wide-requires t)
+    (sub-bring t)
+    (bring-requires t)
+    (copy-card-requires t)
+    (add-result t)
+    (same-length t)
+    (returns-2 t)

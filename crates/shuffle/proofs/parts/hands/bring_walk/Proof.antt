@@ -37,7 +37,7 @@ bring-requires-2 c κs =
 lay-card-requires : tie.Need-lay-card-requires
 lay-card-requires c κs =
     let s = c .before .before .before .before .before .before .before .before .before .before .before .before .before .before .before in
-    (slid-within (s .args .b) _ (s .args .head) _ _ _ (c .before .before .before .before .before .bring2 .ensures .1) (s .pre .5) (inside-here (s .args .t1 .now) (s .args .left) (s .args .head) (s .pre .0)), s .pre .4, c .before .before .before .before .before .before .before .before .take-card .ensures .1)
+    (slid-within (s .args .b) _ (s .args .head) _ _ _ (c .before .before .before .before .before .bring2 .ensures .1) (s .pre .5) (inside-here _ _ _ (s .pre .0)), s .pre .4, c .before .before .before .before .before .before .before .before .take-card .ensures .1)
 
 add-result : tie.Need-add-result
 add-result c =

@@ -1,176 +1,86 @@
 use borrow.Author.Needs.{needs}
-use mathlib.Core.Path.{ap}
-use mathlib.Core.List.{[], _∷_, _++_}
-use Prim.Native.Nat.{_/_, _%_}
+use borrow.Fn.Kinds.{In}
+use borrow.Fn.PlainCycle.{Measures}
+use mathlib.Core.Path.{_≡_, ap}
+use Prim.Native.Nat.{ℕ, _<_}
 use native.Mathlib.Omega.{arith}
 use lib.ListN.{length}
-use Rattle.texts.specs.Text.{digit, decimal}
-use Rattle.texts.specs.parts.Writing.{Room}
-use Rattle.texts.proofs.Writing.{room-first, room-next}
-use Rattle.texts.proofs.Digits.{decimal-low, decimal-more, wrote-low, wrote-more}
-use Prim.Native.Nat.{ℕ, _<_}
-use borrow.Fn.Kinds.{In}
-use borrow.Fn.PlainCycle.{Measures, is, falls, and}
-use Rattle.texts.proofs.parts.words.put_decimal.Reads as put-decimal
-use Rattle.texts.proofs.parts.words.put_decimal.Kinds as put-decimal-kinds
-use Rattle.texts.proofs.parts.words.+put_decimal.Lts-put_decimal as put-decimal-lts
-use Rattle.texts.proofs.parts.words.digit_of.Reads as digit-of-reads
-use Rattle.texts.proofs.parts.words.put_byte.Reads as put-byte-reads
+use Rattle.texts.proofs.Writing.{wrote-length}
+use Rattle.texts.proofs.Digits.{decimal-low, decimal-longer, wrote-low, wrote-more}
+use Rattle.texts.proofs.parts.words.digit_of.Reads as digit-of
+use Rattle.texts.proofs.parts.words.put_byte.Reads as put-byte
+use Rattle.texts.proofs.parts.words.put_decimal.Reads as self
+use Rattle.texts.proofs.parts.words.put_decimal.Kinds as kinds
+use Rattle.texts.proofs.parts.words.+put_decimal.Lts-put_decimal as lts
 use Rattle.texts.proofs.parts.words.+put_decimal.{statement}
 use Rattle.texts.proofs.parts.words.+put_decimal.Tie.{close}
 
-abbrev μ-put-decimal : Measures 1 put-decimal-kinds.ps ℕ
-μ-put-decimal κs a = a .1 .1 .0
+abbrev number : Measures 1 kinds.ps ℕ
+number κs a = a .1 .1 .0
 
-abbrev put-decimal-at : ℕ → In 1 put-decimal-kinds.ps
-put-decimal-at t =
-    and 1 put-decimal-kinds.ps (is 1 put-decimal-kinds.ps μ-put-decimal t) put-decimal.Pre
+module _ (t : ℕ) where
+  -- a call for the number t
+  abbrev this : In 1 kinds.ps
+  this κs a = (number κs a ≡ t) × self.Pre κs a
 
-abbrev put-decimal-below : ℕ → In 1 put-decimal-kinds.ps
-put-decimal-below t =
-    and 1 put-decimal-kinds.ps (falls 1 put-decimal-kinds.ps _<_ μ-put-decimal t) put-decimal.Pre
+  -- the calls in it, its own for a lower number
+  abbrev calls : lts.Claims
+  calls = (digit-of.Asked, digit-of.Learnt, put-byte.Asked, put-byte.Learnt, λ κs a. (number κs a < t) × self.Pre κs a, self.Post)
 
-put-decimal-cast-digit-of : (t : ℕ) → put-decimal-lts.Need-cast-digit-of (
-  digit-of-reads.Asked,
-  digit-of-reads.Learnt,
-  put-byte-reads.Asked,
-  put-byte-reads.Learnt,
-  put-decimal-below t,
-  put-decimal.Post,
-) (put-decimal-at t) put-decimal.Post
-put-decimal-cast-digit-of t c = omega arith
+  cast-digit-of : lts.Need-cast-digit-of calls this self.Post
+  cast-digit-of c = omega arith
 
-put-decimal-digit-of-requires : (t : ℕ) → put-decimal-lts.Need-digit-of-requires (
-  digit-of-reads.Asked,
-  digit-of-reads.Learnt,
-  put-byte-reads.Asked,
-  put-byte-reads.Learnt,
-  put-decimal-below t,
-  put-decimal.Post,
-) (put-decimal-at t) put-decimal.Post
-put-decimal-digit-of-requires t c κs = omega arith
+  digit-of-requires : lts.Need-digit-of-requires calls this self.Post
+  digit-of-requires c κs = omega arith
 
-put-decimal-put-byte-requires : (t : ℕ) → put-decimal-lts.Need-put-byte-requires (
-  digit-of-reads.Asked,
-  digit-of-reads.Learnt,
-  put-byte-reads.Asked,
-  put-byte-reads.Learnt,
-  put-decimal-below t,
-  put-decimal.Post,
-) (put-decimal-at t) put-decimal.Post
-put-decimal-put-byte-requires t c κs =
-    let s = c .before .before .before .before in
-    omega (arith, ap length (decimal-low (s .args .x) (omega arith)))
+  put-byte-requires : lts.Need-put-byte-requires calls this self.Post
+  put-byte-requires c κs = omega (arith, ap length (decimal-low (c .before .before .before .before .args .x) (omega arith)))
 
-put-decimal-same-length : (t : ℕ) → put-decimal-lts.Need-same-length (
-  digit-of-reads.Asked,
-  digit-of-reads.Learnt,
-  put-byte-reads.Asked,
-  put-byte-reads.Learnt,
-  put-decimal-below t,
-  put-decimal.Post,
-) (put-decimal-at t) put-decimal.Post
-put-decimal-same-length t c = search needs
+  same-length : lts.Need-same-length calls this self.Post
+  same-length c = search needs
 
-put-decimal-returns : (t : ℕ) → put-decimal-lts.Need-returns (
-  digit-of-reads.Asked,
-  digit-of-reads.Learnt,
-  put-byte-reads.Asked,
-  put-byte-reads.Learnt,
-  put-decimal-below t,
-  put-decimal.Post,
-) (put-decimal-at t) put-decimal.Post
-put-decimal-returns t c =
-    let s = c .before .before .before .before .before .before .before in
-    wrote-low (s .args .x) _ (omega arith) (c .before .before .before .digit-of .ensures) (c .before .before .put-byte .ensures)
+  returns : lts.Need-returns calls this self.Post
+  returns c =
+      let d = c .before .before .before in
+      wrote-low (d .before .before .before .before .args .x) _ (omega arith) (d .digit-of .ensures) (c .before .before .put-byte .ensures)
 
-put-decimal-put-decimal-requires : (t : ℕ) → put-decimal-lts.Need-put-decimal-requires (
-  digit-of-reads.Asked,
-  digit-of-reads.Learnt,
-  put-byte-reads.Asked,
-  put-byte-reads.Learnt,
-  put-decimal-below t,
-  put-decimal.Post,
-) (put-decimal-at t) put-decimal.Post
-put-decimal-put-decimal-requires t c κs =
-    let s = c .before .before .before in
-    let p : Room (decimal (s .args .x / 10) ++ digit (s .args .x % 10) ∷ []) (s .args .at) (s .args .out .now) = rw (decimal-more (s .args .x) (omega arith)) at (s .pre .1) in
-    (omega arith, room-first (decimal (s .args .x / 10)) _ (s .args .out .now) (s .args .at) p)
+  put-decimal-requires : lts.Need-put-decimal-requires calls this self.Post
+  put-decimal-requires c κs = (omega arith, omega (arith, decimal-longer (c .before .before .before .args .x) (omega arith)))
 
-put-decimal-cast-digit-of-2 : (t : ℕ) → put-decimal-lts.Need-cast-digit-of-2 (
-  digit-of-reads.Asked,
-  digit-of-reads.Learnt,
-  put-byte-reads.Asked,
-  put-byte-reads.Learnt,
-  put-decimal-below t,
-  put-decimal.Post,
-) (put-decimal-at t) put-decimal.Post
-put-decimal-cast-digit-of-2 t c = omega arith
+  cast-digit-of-2 : lts.Need-cast-digit-of-2 calls this self.Post
+  cast-digit-of-2 c = omega arith
 
-put-decimal-digit-of-requires-2 : (t : ℕ) → put-decimal-lts.Need-digit-of-requires-2 (
-  digit-of-reads.Asked,
-  digit-of-reads.Learnt,
-  put-byte-reads.Asked,
-  put-byte-reads.Learnt,
-  put-decimal-below t,
-  put-decimal.Post,
-) (put-decimal-at t) put-decimal.Post
-put-decimal-digit-of-requires-2 t c κs = omega arith
+  digit-of-requires-2 : lts.Need-digit-of-requires-2 calls this self.Post
+  digit-of-requires-2 c κs = omega arith
 
-put-decimal-put-byte-requires-2 : (t : ℕ) → put-decimal-lts.Need-put-byte-requires-2 (
-  digit-of-reads.Asked,
-  digit-of-reads.Learnt,
-  put-byte-reads.Asked,
-  put-byte-reads.Learnt,
-  put-decimal-below t,
-  put-decimal.Post,
-) (put-decimal-at t) put-decimal.Post
-put-decimal-put-byte-requires-2 t c κs =
-    let s = c .before .before .before .before .before .before .before .before in
-    let p : Room (decimal (s .args .x / 10) ++ digit (s .args .x % 10) ∷ []) (s .args .at) (s .args .out .now) = rw (decimal-more (s .args .x) (omega arith)) at (s .pre .1) in
-    room-next (digit (s .args .x % 10) ∷ []) (c .before .before .before .before .put-decimal .ensures) p
+  put-byte-requires-2 : lts.Need-put-byte-requires-2 calls this self.Post
+  put-byte-requires-2 c κs =
+      let p = c .before .before .before .before in
+      let w = p .put-decimal .ensures in
+      omega (arith, decimal-longer (p .before .before .before .before .args .x) (omega arith), wrote-length w, w .behind)
 
-put-decimal-same-length-2 : (t : ℕ) → put-decimal-lts.Need-same-length-2 (
-  digit-of-reads.Asked,
-  digit-of-reads.Learnt,
-  put-byte-reads.Asked,
-  put-byte-reads.Learnt,
-  put-decimal-below t,
-  put-decimal.Post,
-) (put-decimal-at t) put-decimal.Post
-put-decimal-same-length-2 t c = search needs
+  same-length-2 : lts.Need-same-length-2 calls this self.Post
+  same-length-2 c = search needs
 
-put-decimal-returns-2 : (t : ℕ) → put-decimal-lts.Need-returns-2 (
-  digit-of-reads.Asked,
-  digit-of-reads.Learnt,
-  put-byte-reads.Asked,
-  put-byte-reads.Learnt,
-  put-decimal-below t,
-  put-decimal.Post,
-) (put-decimal-at t) put-decimal.Post
-put-decimal-returns-2 t c =
-    let s = c .before .before .before .before .before .before .before .before .before .before .before in
-    wrote-more (s .args .x) _ (omega arith) (c .before .before .before .digit-of2 .ensures) (c .before .before .before .before .before .before .before .put-decimal .ensures) (c .before .before .put-byte2 .ensures)
+  returns-2 : lts.Need-returns-2 calls this self.Post
+  returns-2 c =
+      let p = c .before .before .before .before .before .before .before in
+      wrote-more (p .before .before .before .before .args .x) _ (omega arith) (c .before .before .before .digit-of2 .ensures) (p .put-decimal .ensures) (c .before .before .put-byte2 .ensures)
 
 pub +put-decimal-spec : {M : Type 1} → statement M
-+put-decimal-spec = close μ-put-decimal λ t. put-decimal-lts.spec (
-  digit-of-reads.Asked,
-  digit-of-reads.Learnt,
-  put-byte-reads.Asked,
-  put-byte-reads.Learnt,
-  put-decimal-below t,
-  put-decimal.Post,
-)
-    (put-decimal-at t)
-    put-decimal.Post
-    (put-decimal-cast-digit-of t)
-    (put-decimal-digit-of-requires t)
-    (put-decimal-put-byte-requires t)
-    (put-decimal-same-length t)
-    (put-decimal-returns t)
-    (put-decimal-put-decimal-requires t)
-    (put-decimal-cast-digit-of-2 t)
-    (put-decimal-digit-of-requires-2 t)
-    (put-decimal-put-byte-requires-2 t)
-    (put-decimal-same-length-2 t)
-    (put-decimal-returns-2 t)
++put-decimal-spec =
+    close number λ t. lts.spec
+    (calls t)
+    (this t)
+    self.Post
+    (cast-digit-of t)
+    (digit-of-requires t)
+    (put-byte-requires t)
+    (same-length t)
+    (returns t)
+    (put-decimal-requires t)
+    (cast-digit-of-2 t)
+    (digit-of-requires-2 t)
+    (put-byte-requires-2 t)
+    (same-length-2 t)
+    (returns-2 t)
