@@ -6,17 +6,18 @@ use Prim.Native.Nat.{ℕ, _+_, _<_}
 use native.Mathlib.Omega.{arith}
 use native.Mathlib.Numerals.{add-one}
 use native.Mathlib.Decide.{ℕ-discrete}
-use lib.ListN.{length, getD, set, length-set, getD-replicate, length-replicate}
-use lib.Seq.{getD-set-same, getD-set-other}
+use lib.ListN.{length, getD, take, set, length-set, getD-replicate, length-replicate}
+use lib.Seq.{getD-set-same, getD-set-other, getD-take, length-take-le}
 use borrow.Author.Tests.{eq-eqb, ne-eqb}
 use Rattle.counting.specs.Count.{seek}
 use Rattle.racks.specs.Limits.{FREE}
 use Rattle.racks.specs.Table.{dest, names}
-use Rattle.copies.specs.Copies.{source}
+use Rattle.copies.specs.Copies.{next, source, onward, back}
 use Rattle.copies.specs.parts.Chains.{Chained}
 use Rattle.tables.specs.parts.Tables.{namedSlot}
 use Rattle.copies.specs.parts.Writes.{noSources, Sources, putSource}
-use Rattle.copies.proofs.Chains.{next-is}
+use Rattle.copies.proofs.Walks.{after-same}
+use Rattle.copies.proofs.Chains.{next-is, next-has, next-source, source-low}
 
 -- the sources among the first g slots are in the table
 pub record SourcesTo (places : List ℕ) (g : ℕ) (noted : List ℕ) : Type 0 where
@@ -75,6 +76,37 @@ module _ (places : List ℕ) where
   pub sources-all : (g : ℕ) (noted : List ℕ) → g ≡ length places → SourcesTo places g noted → Sources places noted
   unfolding source
   sources-all g noted e s = record { sources = λ d l. s .sources d l ∙ ap (λ (n : ℕ). seek FREE n (names places d)) e; long = s .long }
+
+-- the inverse of S slots, as a table of its own
+module _ {places noted : List ℕ} (ok : Chained places) (s : Sources places noted) where
+  abbrev inverse : List ℕ
+  inverse = take (length places) noted
+
+  -- it is as long
+  pub length-inverse : length inverse ≡ length places
+  length-inverse = length-take-le (length places) noted (omega (arith, ok .small, s .long))
+
+  inverse-next : (x : ℕ) → x < length places → next inverse x ≡ source places x
+  inverse-next x l = next-is inverse x (omega (arith, length-inverse)) ∙ getD-take (length places) noted x 0 l ∙ s .sources x (omega (arith, ok .small))
+
+  inverse-has : (x : ℕ) → next inverse x ≢ FREE → next inverse x ≡ source places x
+  inverse-has x q = inverse-next x (omega (arith, next-has inverse x q, length-inverse))
+
+  undone : (x : ℕ) → next inverse x ≢ FREE → next places (next inverse x) ≡ x
+  undone x q = let e = inverse-has x q in rw e (next-source ok x (λ u. q (e ∙ u)))
+
+  -- its entries are slots, no two the same
+  pub inverse-chained : Chained inverse
+  inverse-chained = record {
+    small = omega (arith, length-inverse, ok .small);
+    below = λ x q. let e = inverse-has x q in omega (arith, e, source-low ok x (λ u. q (e ∙ u)), length-inverse);
+    once = λ x y e q. sym (undone x q) ∙ ap (next places) e ∙ undone y (λ u. q (e ∙ u));
+  }
+
+  -- the way on by it is the way back
+  pub inverse-onward : (k : ℕ) → k < length places → onward inverse k ≡ back places k
+  unfolding onward back
+  inverse-onward k l = rw length-inverse (after-same (next inverse) (source places) k (length places) inverse-next (source-low ok) (length places) k l)
 
 -- a card's destination is a slot of the table
 pub entry-low : {places : List ℕ} → Chained places → (g : ℕ) → g < length places → dest places g ≢ FREE → dest places g < length places

@@ -5,7 +5,7 @@ use mathlib.Core.List.{List, [], _∷_, _++_, append-assoc, append-nil}
 use Prim.Native.Nat.{ℕ, suc, _+_, _-_, _≤_, _<_}
 use native.Mathlib.Omega.{arith}
 use native.Mathlib.Decide.{ℕ-discrete}
-use lib.ListN.{length, set, length-append, length-set}
+use lib.ListN.{length, getD, take, set, length-append, length-set}
 use lib.Seq.{getD-set-same, getD-set-other}
 use borrow.Author.Tests.{eq-eqb, ne-eqb}
 use Rattle.counting.specs.Tests.{_or_}
@@ -13,11 +13,12 @@ use Rattle.counting.specs.Lists.{among, last}
 use Rattle.counting.proofs.Members.{among-append}
 use Rattle.counting.proofs.Tests.{by-test, pick-same}
 use Rattle.racks.specs.Limits.{FREE}
-use Rattle.copies.specs.Copies.{next, source, after, onward, back}
+use Rattle.copies.specs.Copies.{next, after, onward}
 use Rattle.copies.specs.parts.Chains.{Chained}
-use Rattle.copies.specs.parts.Writes.{Marked, MarkedOn, MarkedBack, handEnd}
+use Rattle.copies.specs.parts.Writes.{Sources, Marked, Passed, MarkedOn, MarkedBack, handEnd}
 use Rattle.copies.proofs.Walks.{Ends, after-stop, after-go}
-use Rattle.copies.proofs.Chains.{back-short, onward-short}
+use Rattle.copies.proofs.Chains.{next-is, onward-ends, onward-short}
+use Rattle.copies.proofs.Sourced.{inverse-onward}
 
 last-snoc : (x y : ℕ) (l : List ℕ) → last x (l ++ y ∷ []) ≡ y
 unfolding last
@@ -84,79 +85,66 @@ module _ (mark : ℕ) where
   unfolding among
   mark-none seen = record { marks = λ v. refl; long = refl }
 
--- a walk along f from s, as the code marks the slots behind s
-pub record Marking (f : ℕ → ℕ) (mark : ℕ) (s S n x : ℕ) (before after : List ℕ) : Type 0 where
-  pub walking : Walking f s S n x
+-- a walk by a table from slot h, as the code marks the slots behind h
+pub record Marking (table : List ℕ) (mark h n x : ℕ) (before after : List ℕ) : Type 0 where
+  pub walking : Walking (next table) h (length table) n x
   pub marked : Marked mark (walking .past) before after
+  pub here : x < length table
 
-module _ (f : ℕ → ℕ) (mark s S : ℕ) where
+module _ {table : List ℕ} (ok : Chained table) (mark h : ℕ) (low : h < length table) (before : List ℕ) where
   -- at first none is
-  pub marking-begin : (before : List ℕ) → Marking f mark s S 0 s before before
+  pub marking-begin : Marking table mark h 0 h before before
   unfolding walk-begin
-  marking-begin before = record { walking = walk-begin f s S; marked = mark-none mark before }
+  marking-begin = record { walking = walk-begin (next table) h (length table); marked = mark-none mark before; here = low }
 
-  module _ (n x : ℕ) (before seen : List ℕ) (m : Marking f mark s S n x before seen) where
+  module _ (n x : ℕ) (seen : List ℕ) (m : Marking table mark h n x before seen) where
     -- a slot more is marked
-    pub marking-more : (y : ℕ) → n < S → y ≡ f x → y ≢ FREE → y ≢ s → y < length seen → Marking f mark s S (n + 1) y before (set seen y mark)
+    pub marking-more : (y : ℕ) → n < length table → y ≡ getD table x 0 → y ≢ FREE → y ≢ h → length before ≡ 4096 → Marking table mark h (n + 1) y before (set seen y mark)
     unfolding walk-more
-    marking-more y l e p q b = record {
-      walking = walk-more f s S n x y (m .walking) l e p q;
-      marked = mark-more mark (m .walking .past) (y ∷ []) before seen (set seen y mark) (m .marked) (mark-one mark seen y b);
-    }
+    marking-more y l e p q long =
+        let i : y ≡ next table x = e ∙ sym (next-is table x (m .here)) in
+        let b : y < length table = rw i (ok .below x (λ u. p (i ∙ u))) in
+        record {
+          walking = walk-more (next table) h (length table) n x y (m .walking) l i p q;
+          marked = mark-more mark (m .walking .past) (y ∷ []) before seen (set seen y mark) (m .marked) (mark-one mark seen y (omega (arith, m .marked .long, ok .small)));
+          here = b;
+        }
 
-    done : after f s S s ≡ m .walking .past → (n ≡ length (after f s S s)) × (x ≡ last s (after f s S s)) × Marked mark (after f s S s) before seen
-    done e = rw e (sym (m .walking .count), m .walking .here, m .marked)
+    -- the walk ends here
+    pub marking-stop : Ends h (getD table x 0) → Passed table mark h before x n (getD table x 0) seen
+    unfolding onward
+    marking-stop e =
+        let i = next-is table x (m .here) in
+        let w : m .walking .past ≡ onward table h = sym (walk-stop (next table) h (length table) n x (m .walking) (rw i e)) in
+        let j : x ≡ last h (onward table h) = m .walking .here ∙ ap (last h) w in
+        record { head-is = j; left-is = sym (m .walking .count) ∙ ap length w; end-is = sym i ∙ ap (next table) j; marked = rw w at (m .marked) }
 
-    -- the walk ends here: counted
-    pub marking-stop : Ends s (f x) → (n ≡ length (after f s S s)) × (x ≡ last s (after f s S s)) × Marked mark (after f s S s) before seen
-    marking-stop e = done (walk-stop f s S n x (m .walking) e)
-
-    -- all steps are made
-    pub marking-out : S ≤ n → length (after f s S s) ≡ n
-    marking-out l = ap length (walk-out f s S n x (m .walking) l) ∙ m .walking .count
+    -- as many steps as there are slots are never made
+    pub marking-never : length table ≤ n → ⊥
+    unfolding onward
+    marking-never l = omega (arith, ap length (walk-out (next table) h (length table) n x (m .walking) l) ∙ m .walking .count, onward-short ok h low)
 
 -- the way on from h: h is marked first
-module _ {places : List ℕ} (ok : Chained places) (mark h : ℕ) (low : h < length places) (n x : ℕ) (start seen : List ℕ) (long : length start ≡ 4096) (m : Marking (next places) mark h (length places) n x (set start h mark) seen) where
-  on-marked : Ends h (next places x) → Marked mark (h ∷ onward places h) start seen
-  unfolding onward
-  on-marked e = mark-more mark (h ∷ []) (onward places h) start (set start h mark) seen (mark-one mark start h (omega (arith, ok .small))) (marking-stop (next places) mark h (length places) n x (set start h mark) seen m e .2)
-
-  on-last : Ends h (next places x) → x ≡ last h (onward places h)
-  unfolding onward
-  on-last e = marking-stop (next places) mark h (length places) n x (set start h mark) seen m e .1
-
-  on-count : Ends h (next places x) → n ≡ length (onward places h)
-  unfolding onward
-  on-count e = marking-stop (next places) mark h (length places) n x (set start h mark) seen m e .0
+module _ {places : List ℕ} (ok : Chained places) (mark h : ℕ) (low : h < length places) (start seen : List ℕ) (long : length start ≡ 4096) (head left end : ℕ) (p : Passed places mark h (set start h mark) head left end seen) where
+  on-marked : Marked mark (h ∷ onward places h) start seen
+  on-marked = mark-more mark (h ∷ []) (onward places h) start (set start h mark) seen (mark-one mark start h (omega (arith, ok .small))) (p .marked)
 
   -- it ends at a free slot
-  pub on-free : next places x ≡ FREE → MarkedOn places mark h start h n FREE seen
-  on-free e = record { head-is = refl; left-is = on-count (inl e); ends = inr (ap (next places) (sym (on-last (inl e))) ∙ e, refl); marked = on-marked (inl e) }
+  pub on-free : end ≡ FREE → MarkedOn places mark h start h left FREE seen
+  on-free e = record { head-is = refl; left-is = p .left-is; ends = inr (sym (p .end-is) ∙ e, refl); marked = on-marked }
 
   -- it comes to h again
-  pub on-turn : next places x ≡ h → (end last : ℕ) → last ≡ x → end ≡ handEnd last n → MarkedOn places mark h start h n end seen
-  on-turn e end last i p = record {
+  pub on-turn : end ≢ FREE → (last hand : ℕ) → last ≡ head → hand ≡ handEnd last left → MarkedOn places mark h start h left hand seen
+  on-turn q last hand i e = record {
     head-is = refl;
-    left-is = on-count (inr e);
-    ends = inl (ap (next places) (sym (on-last (inr e))) ∙ e, p ∙ ap (λ (l : ℕ). handEnd l n) (i ∙ on-last (inr e)));
-    marked = on-marked (inr e);
+    left-is = p .left-is;
+    ends = elim (onward-ends ok h low) [ inl u ↦ absurd (q (p .end-is ∙ u)) | inr u ↦ inl (u, e ∙ ap (λ (l : ℕ). handEnd l left) (i ∙ p .head-is)) ];
+    marked = on-marked;
   }
 
-  -- S steps are never made
-  pub on-never : length places ≤ n → ⊥
-  unfolding onward
-  on-never l = omega (arith, marking-out (next places) mark h (length places) n x (set start h mark) seen m l, onward-short ok h low)
-
--- the way back from k
-module _ {places : List ℕ} (ok : Chained places) (mark k : ℕ) (low : k < length places) (n x : ℕ) (start seen : List ℕ) (m : Marking (source places) mark k (length places) n x start seen) where
-  -- it ends
-  pub back-stop : Ends k (source places x) → MarkedBack places mark k start x n seen
-  unfolding back
-  back-stop e =
-      let d = marking-stop (source places) mark k (length places) n x start seen m e in
-      record { head-is = d .1; left-is = d .0; marked = d .2 }
-
-  -- S steps are never made
-  pub back-never : length places ≤ n → ⊥
-  unfolding back
-  back-never l = omega (arith, marking-out (source places) mark k (length places) n x start seen m l, back-short ok k low)
+-- the way back from k: on, by the inverse
+pub back-passed : {places noted : List ℕ} (ok : Chained places) (s : Sources places noted) (mark k : ℕ) → k < length places → (start seen : List ℕ) (head left end : ℕ)
+    → Passed (take (length places) noted) mark k start head left end seen → MarkedBack places mark k start head left seen
+back-passed ok s mark k low start seen head left end p =
+    let e = inverse-onward ok s k low in
+    record { head-is = p .head-is ∙ ap (last k) e; left-is = p .left-is ∙ ap length e; marked = rw e at (p .marked) }

@@ -143,3 +143,12 @@ module _ (f g : ℕ → ℕ) (undo : Undoes g f) (redo : Undoes f g) (x S : ℕ)
       go : Ends x (g (last x (after g x S x))) → g (last x (after g x S x)) ≡ x
       go (inl u) = absurd (omega (arith, walk-low f g undo x S low small (g (last x (after g x S x))) end))
       go (inr u) = u
+
+-- where f and g agree on the slots, so do the walks along them
+pub after-same : (f g : ℕ → ℕ) (s S : ℕ) → ((x : ℕ) → x < S → f x ≡ g x) → ((x : ℕ) → g x ≢ FREE → g x < S) → (n x : ℕ) → x < S → after f s n x ≡ after g s n x
+unfolding after
+after-same f g s S same below zero x l = refl
+after-same f g s S same below (suc n) x l = elim (ends? s (g x)) [
+  | yes e ↦ after-stop f s (suc n) x (rw (same x l) e) ∙ sym (after-stop g s (suc n) x e)
+  | no q ↦ after-go f s n x (rw (same x l) q) ∙ rw (same x l, after-same f g s S same below n (g x) (below x (λ e. q (inl e)))) (sym (after-go g s n x q))
+]

@@ -76,6 +76,13 @@ pub record Marked (mark : ℕ) (slots before after : List ℕ) : Type 0 where
 unfoldable pub due : List ℕ → ℕ → List ℕ → ℕ → List ℕ
 due places mark seen k = pick (eqb (getD seen k 0) mark) [] (factor places k)
 
+-- the slots that follow slot h by a table, marked: the last of them, how many they are, and the entry there
+pub record Passed (table : List ℕ) (mark h : ℕ) (seen : List ℕ) (head left end : ℕ) (marks : List ℕ) : Type 0 where
+  pub head-is : head ≡ last h (onward table h)
+  pub left-is : left ≡ length (onward table h)
+  pub end-is : end ≡ next table (last h (onward table h))
+  pub marked : Marked mark (onward table h) seen marks
+
 -- the way on from slot h, marked: it comes to h again, and `end` is the last slot where that is another, or it ends at a free slot
 pub record MarkedOn (places : List ℕ) (mark h : ℕ) (seen : List ℕ) (head left end : ℕ) (marks : List ℕ) : Type 0 where
   pub head-is : head ≡ h

@@ -5,11 +5,12 @@ ghost use lib.ListN.{length};
 ghost use Rattle.racks.specs.Limits.{SLOTS, SOURCES};
 ghost use Rattle.tables.specs.parts.Tables.{namedSlot};
 ghost use Rattle.copies.specs.parts.Chains.{Chained};
-ghost use Rattle.copies.specs.parts.Writes.{noSources, Sources, putSource, handEnd, MarkedOn, MarkedBack, Walked};
+ghost use Rattle.copies.specs.parts.Writes.{noSources, Sources, putSource, handEnd, Passed, MarkedOn, MarkedBack, Walked};
 use crate::parts;
 use racks::Job;
 
-// A factor: its first slot, how many slots follow, and on a cycle of two slots or more the slot whose card goes to the hand, else 65,535.
+// A factor: its first slot, how many slots follow, and on a cycle of two slots or more the slot whose card goes to the hand, else 65,535. One
+// way through it, on or back: its last slot, how many slots were passed, and the entry there.
 pub struct Walk {
     pub head: usize,
     pub left: usize,
@@ -48,30 +49,28 @@ pub fn hand_end(from: u16, n: usize) -> u16
     from
 }
 
-// Marks slot h and the slots that follow it. Where that comes to h again, the walk is that of h's factor, a cycle.
-pub fn mark_on(places: &[u16], seen: &mut [u8; Job::MAX_SLOTS], mark: u8, h: usize) -> Walk
-    requires { ⌜ Chained (now places) × (h < length (now places)) × (length (now seen) ≡ SLOTS) ⌝ }
-    ensures { λ r. ⌜ MarkedOn (now (places .entry)) mark h (now (seen .entry)) (r .head) (r .left) (r .end) (now (seen .exit)) ⌝ }
+// Marks the slots that follow slot h by a table, up to an entry that is 65,535 or h.
+pub fn mark_along(table: &[u16], seen: &mut [u8; Job::MAX_SLOTS], mark: u8, h: usize) -> Walk
+    requires { ⌜ Chained (now table) × (h < length (now table)) × (length (now seen) ≡ SLOTS) ⌝ }
+    ensures { λ r. ⌜ Passed (now (table .entry)) mark h (now (seen .entry)) (r .head) (r .left) (r .end) (now (seen .exit)) ⌝ }
 {
-    seen[h] = mark;
     let mut x = h;
     let mut n: usize = 0;
-    while n < places.len() {
-        let y = places[x];
+    while n < table.len() {
+        let y = table[x];
         if y == Job::FREE {
             return Walk {
-                head: h,
+                head: x,
                 left: n,
-                end: Job::FREE,
+                end: y,
             };
         }
         let to = parts::wide(y);
         if to == h {
-            let end = hand_end(x as u16, n);
             return Walk {
-                head: h,
+                head: x,
                 left: n,
-                end,
+                end: y,
             };
         }
         seen[to] = mark;
@@ -79,13 +78,35 @@ pub fn mark_on(places: &[u16], seen: &mut [u8; Job::MAX_SLOTS], mark: u8, h: usi
         n = n + 1;
     }
     Walk {
-        head: h,
+        head: x,
         left: n,
         end: Job::FREE,
     }
 }
 
-// Marks the slots on the way back from slot k: where it ends, and how many they are.
+// Marks slot h and the slots that follow it. Where that comes to h again, the walk is that of h's factor, a cycle.
+pub fn mark_on(places: &[u16], seen: &mut [u8; Job::MAX_SLOTS], mark: u8, h: usize) -> Walk
+    requires { ⌜ Chained (now places) × (h < length (now places)) × (length (now seen) ≡ SLOTS) ⌝ }
+    ensures { λ r. ⌜ MarkedOn (now (places .entry)) mark h (now (seen .entry)) (r .head) (r .left) (r .end) (now (seen .exit)) ⌝ }
+{
+    seen[h] = mark;
+    let w = mark_along(places, seen, mark, h);
+    if w.end == Job::FREE {
+        return Walk {
+            head: h,
+            left: w.left,
+            end: Job::FREE,
+        };
+    }
+    let end = hand_end(w.head as u16, w.left);
+    Walk {
+        head: h,
+        left: w.left,
+        end,
+    }
+}
+
+// Marks the slots on the way back from slot k: on, by the inverse. What is stored behind its slots is no entry, so that is not lent.
 pub fn mark_back(
     places: &[u16],
     sources: &[u16; Job::SOURCES],
@@ -96,34 +117,9 @@ pub fn mark_back(
     requires { ⌜ Chained (now places) × Sources (now places) (now sources) × (k < length (now places)) × (length (now seen) ≡ SLOTS) ⌝ }
     ensures { λ r. ⌜ MarkedBack (now (places .entry)) mark k (now (seen .entry)) (r .head) (r .left) (now (seen .exit)) ⌝ }
 {
-    let mut x = k;
-    let mut n: usize = 0;
-    while n < places.len() {
-        let y = sources[x];
-        if y == Job::FREE {
-            return Walk {
-                head: x,
-                left: n,
-                end: Job::FREE,
-            };
-        }
-        let from = parts::wide(y);
-        if from == k {
-            return Walk {
-                head: x,
-                left: n,
-                end: Job::FREE,
-            };
-        }
-        seen[from] = mark;
-        x = from;
-        n = n + 1;
-    }
-    Walk {
-        head: x,
-        left: n,
-        end: Job::FREE,
-    }
+    let all = &sources[..];
+    let n = places.len();
+    mark_along(&all[..n], seen, mark, k)
 }
 
 // The walk through the factor of slot k, which is marked.
