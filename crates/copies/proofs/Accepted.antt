@@ -6,9 +6,9 @@ use Rattle.racks.specs.Numbers.{someAway}
 use Rattle.racks.specs.Job.{racksOf}
 use Rattle.racks.specs.declared.Job.{Job}
 use Rattle.tables.specs.parts.Tables.{Open}
-use Rattle.copies.specs.parts.Chains.{Chained}
+use Rattle.factors.specs.parts.Chains.{Chained}
 use Rattle.copies.specs.parts.Writes.{someAwayBy}
-use Rattle.copies.proofs.Chains.{chained}
+use Rattle.factors.proofs.Chains.{chained}
 use Rattle.copies.proofs.AwayBy.{some-away-by}
 
 module _ {job : Job} {places racking : List ℕ} (o : Open job places racking) where

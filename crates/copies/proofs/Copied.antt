@@ -22,10 +22,10 @@ use Rattle.racks.specs.Job.{racksOf, jobOf}
 use Rattle.racks.specs.declared.Job.{Job}
 use Rattle.tables.specs.parts.Tables.{tableNumber}
 use Rattle.tables.proofs.Tables.{listed-by}
-use Rattle.copies.specs.Copies.{copyList, copyChecks, copied}
+use Rattle.factors.specs.Copies.{copyList, copyChecks, copied}
 use Rattle.copies.specs.parts.Writes.{putCopies, AllWritten, fits, listedHere, copyNumber, copiedBy}
-use Rattle.copies.specs.parts.Chains.{Chained}
-use Rattle.copies.proofs.Costs.{list-most}
+use Rattle.factors.specs.parts.Chains.{Chained}
+use Rattle.factors.proofs.Costs.{list-most}
 
 -- three numbers a slot are enough
 pub fits-long : {places : List ℕ} → Chained places → (room : ℕ) → 3 * length places ≤ room → true ≡ fits room places

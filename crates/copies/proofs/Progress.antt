@@ -12,12 +12,14 @@ use Rattle.counting.specs.Tests.{_or_}
 use Rattle.counting.specs.Lists.{Pair, join, each, among}
 use Rattle.counting.proofs.Tests.{by-test}
 use Rattle.counting.proofs.Members.{among-append}
-use Rattle.copies.specs.Copies.{factor, factorsFrom, factors, copies, copyList}
-use Rattle.copies.specs.parts.Chains.{Chained}
-use Rattle.copies.specs.parts.Writes.{putCopies, walked, walkCount, Unmarked, Marked, due, Walked, Counted, Written, AllWritten}
-use Rattle.copies.proofs.Costs.{list-most}
-use Rattle.copies.proofs.Walking.{mark-none}
-use Rattle.copies.proofs.Writing.{put-none, put-append, length-walked}
+use Rattle.factors.specs.Copies.{factor, factorsFrom, factors, copies, copyList}
+use Rattle.factors.specs.parts.Chains.{Chained}
+use Rattle.factors.specs.parts.Walks.{walked, walkCount, Marked, Walked}
+use Rattle.copies.specs.parts.Writes.{putCopies, Unmarked, due, Counted, Written, AllWritten}
+use Rattle.factors.proofs.Costs.{list-most}
+use Rattle.factors.proofs.Walking.{mark-none}
+use Rattle.factors.proofs.Walked.{length-walked}
+use Rattle.copies.proofs.Writing.{put-none, put-append}
 
 -- marks as they are made
 pub unmarked-first : (mark : ℕ) → mark ≢ 0 → (seen : List ℕ) → seen ≡ replicate 4096 0 → Unmarked mark seen

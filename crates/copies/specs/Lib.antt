@@ -1,3 +1,1 @@
-pub mod Copies
-pub mod Factors
 pub mod parts

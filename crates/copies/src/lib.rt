@@ -1,7 +1,7 @@
 // The copy list.
 ghost use mathlib.Core.Path.{_≡_};
 ghost use Rattle.racks.specs.Racks.{ofCaps};
-ghost use Rattle.copies.specs.Copies.{copied};
+ghost use Rattle.factors.specs.Copies.{copied};
 ghost use Rattle.answers.specs.Answers.{listedOf};
 use answers::Answer;
 use racks::Job;

@@ -4,24 +4,17 @@ ghost use Prim.Native.Nat.{_+_, _*_, _≤_, _<_};
 ghost use Rattle.answers.specs.Answers.{plusCopies, listedOf};
 ghost use lib.ListN.{length};
 ghost use Rattle.counting.specs.Tests.{_or_};
-ghost use Rattle.copies.specs.parts.Chains.{Chained};
+ghost use Rattle.factors.specs.parts.Chains.{Chained};
 ghost use Rattle.racks.specs.Job.{Fit};
 ghost use Rattle.tables.specs.parts.Tables.{awayBy};
-ghost use Rattle.copies.specs.Copies.{copyList};
+ghost use Rattle.factors.specs.Copies.{copyList};
 ghost use Rattle.copies.specs.parts.Writes.{someAwayBy, putCopies, listedHere, copiedBy};
 use answers::Answer;
 use answers::Tally;
+use factors::parts::walks;
 use racks::Job;
 
 pub mod lists;
-pub mod walks;
-
-// A slot's number, as an index.
-pub fn wide(x: u16) -> usize
-    ensures { λ r. ⌜ r ≡ x ⌝ }
-{
-    x as usize
-}
 
 // Whether the card in slot g is away, by the racking. A free slot is on its own rack: so there is no branch, which could
 // not be foretold where free and taken slots alternate at random.

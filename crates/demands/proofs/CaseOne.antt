@@ -16,7 +16,7 @@ use Rattle.racks.specs.Numbers.{badCount, badBytes, tooLarge, badSize, badPlace
 use Rattle.plans.specs.Plan.{other, sources, lowest, granted, openSlots, room, arrivals, planFor, plan, planChecks, planned}
 use Rattle.moves.specs.Blocks.{block, putBlock, blank}
 use Rattle.moves.specs.Phases.{phasesFrom, phases, budget, budgeted}
-use Rattle.copies.specs.Copies.{next, source, after, onward, back, onCycle, head, factor, factorsFrom, factors, shift, cycle, copies, copyList}
+use Rattle.factors.specs.Copies.{next, source, after, onward, back, onCycle, head, factor, factorsFrom, factors, shift, cycle, copies, copyList}
 use Rattle.shuffle.specs.Shuffle.{taken, laid, runCopies, brought, isNamed, lastEntry, lastCard, settledHeld}
 use Rattle.runs.specs.Run.{gathered, hasPairs, counts, ran}
 use Rattle.demands.specs.Paper.{caps1, held1}

@@ -16,7 +16,7 @@ use Rattle.slots.specs.Slots.{slotChecks, asked}
 use Rattle.plans.specs.Plan.{planChecks, planned}
 use Rattle.moves.specs.Moves.{moveChecks, moved}
 use Rattle.moves.specs.Phases.{budgeted}
-use Rattle.copies.specs.Copies.{copyChecks, copied}
+use Rattle.factors.specs.Copies.{copyChecks, copied}
 use Rattle.shuffle.specs.Shuffle.{shuffleChecks, shuffled}
 use Rattle.runs.specs.Run.{ran}
 use Rattle.answers.specs.declared.Answer.{Answer}

@@ -10,7 +10,7 @@ use Rattle.racks.specs.Table.{aways}
 use Rattle.racks.proofs.LegalTable.{spared-caps}
 use Rattle.moves.specs.Moves.{Held, carried}
 use Rattle.moves.specs.Phases.{phases}
-use Rattle.copies.specs.Copies.{copyList}
+use Rattle.factors.specs.Copies.{copyList}
 use Rattle.runs.specs.Run.{gathered}
 use Rattle.demands.specs.Accepted.{Accepted}
 use Rattle.demands.specs.Demand2.{Shuffle, Demand2}

@@ -24,9 +24,9 @@ use Rattle.moves.specs.Phases.{phases, budget, budgeted}
 use Rattle.moves.proofs.Phases.{phases-in-turn, phases-end, phases-moves, aways-some, aways-none}
 use Rattle.moves.proofs.FirstFit.{first-fit}
 use Rattle.tables.proofs.Tables.{cards-marked}
-use Rattle.copies.specs.Copies.{copyList}
-use Rattle.copies.proofs.Chains.{chained}
-use Rattle.copies.proofs.OneRack.{one-rack}
+use Rattle.factors.specs.Copies.{copyList}
+use Rattle.factors.proofs.Chains.{chained}
+use Rattle.factors.proofs.OneRack.{one-rack}
 use Rattle.shuffle.specs.Shuffle.{brought, lastEntry, lastCard, settledHeld, shuffleChecks, shuffled}
 use Rattle.shuffle.proofs.Bytes.{length-brought}
 use Rattle.shuffle.proofs.Settled.{is-named, not-named, length-slots, length-last, settled-card, settled-blank, settled-self, settled-free}

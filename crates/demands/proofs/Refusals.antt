@@ -9,7 +9,7 @@ use Rattle.slots.specs.Slots.{asked}
 use Rattle.plans.specs.Plan.{planned}
 use Rattle.moves.specs.Moves.{moved}
 use Rattle.moves.specs.Phases.{budgeted}
-use Rattle.copies.specs.Copies.{copied}
+use Rattle.factors.specs.Copies.{copied}
 use Rattle.shuffle.specs.Shuffle.{shuffled}
 use Rattle.runs.specs.Run.{ran}
 use Rattle.answers.specs.declared.Answer.{Answer}

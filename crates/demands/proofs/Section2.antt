@@ -9,16 +9,16 @@ use Rattle.counting.specs.Lists.{last}
 use Rattle.counting.proofs.Every.{all-map}
 use Rattle.racks.specs.Limits.{FREE, HAND}
 use Rattle.racks.specs.Table.{dest}
-use Rattle.copies.specs.Copies.{next, source, onward, head, factor, shift, cycle, copyList}
-use Rattle.copies.specs.parts.Chains.{Chained}
+use Rattle.factors.specs.Copies.{next, source, onward, head, factor, shift, cycle, copyList}
+use Rattle.factors.specs.parts.Chains.{Chained}
 use Rattle.counting.specs.Every.{In}
-use Rattle.copies.proofs.Members.{last-in}
-use Rattle.copies.proofs.Walks.{Path, Ends}
-use Rattle.copies.proofs.Chains.{next-is, source-next, onward-low, onward-path, onward-ends, head-low, head-cases, shift-ends, cycle-ends}
-use Rattle.copies.specs.Factors.{Lowest}
-use Rattle.copies.proofs.Factors.{factors-lowest, factors-ascend, factors-once, factors-all, factors-slots}
-use Rattle.copies.proofs.Costs.{copies-shift, copies-cycle, cost-shift, cost-cycle, cost-settled, list-most}
-use Rattle.copies.proofs.Counted.{list-count}
+use Rattle.factors.proofs.Members.{last-in}
+use Rattle.factors.proofs.Walks.{Path, Ends}
+use Rattle.factors.proofs.Chains.{next-is, source-next, onward-low, onward-path, onward-ends, head-low, head-cases, shift-ends, cycle-ends}
+use Rattle.factors.specs.Factors.{Lowest}
+use Rattle.factors.proofs.Factors.{factors-lowest, factors-ascend, factors-once, factors-all, factors-slots}
+use Rattle.factors.proofs.Costs.{copies-shift, copies-cycle, cost-shift, cost-cycle, cost-settled, list-most}
+use Rattle.factors.proofs.Counted.{list-count}
 use Rattle.shuffle.proofs.Bytes.{brought-home}
 use Rattle.demands.specs.Section2.{Follows, links, Factor, CopyList}
 use Rattle.demands.specs.Section2.Factor.{isShift, isCycle, isSettled}

@@ -20,7 +20,7 @@ use Rattle.racks.proofs.LegalTable.{spared-caps}
 use Rattle.moves.specs.Phases.{phases, budgeted}
 use Rattle.moves.proofs.Phases.{budget-aways}
 use Rattle.moves.proofs.FirstFit.{first-fit}
-use Rattle.copies.specs.Copies.{copyList}
+use Rattle.factors.specs.Copies.{copyList}
 use Rattle.runs.specs.Run.{gathered, counts, ran}
 use Rattle.runs.proofs.WholeRun.{run-moves, run-phases, run-copies}
 use Rattle.listing.specs.Listing.{listing}

@@ -16,7 +16,7 @@ use Rattle.slots.specs.Slots.{nothing, asked}
 use Rattle.plans.specs.Plan.{plan, planned}
 use Rattle.moves.specs.Moves.{Held, moved}
 use Rattle.moves.specs.Phases.{budgeted}
-use Rattle.copies.specs.Copies.{copyList, copied}
+use Rattle.factors.specs.Copies.{copyList, copied}
 use Rattle.shuffle.specs.Shuffle.{shuffled}
 use Rattle.runs.specs.Run.{ran}
 use Rattle.jobfile.specs.Numeral.{numeral}

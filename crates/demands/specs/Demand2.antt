@@ -15,7 +15,7 @@ use Rattle.plans.specs.Plan.{room, plan}
 use Rattle.moves.specs.Blocks.{block, blank}
 use Rattle.moves.specs.Moves.{Held, carried, between, moved, Disjoint}
 use Rattle.moves.specs.Phases.{phases, budgeted}
-use Rattle.copies.specs.Copies.{factor, copyList}
+use Rattle.factors.specs.Copies.{factor, copyList}
 use Rattle.shuffle.specs.Shuffle.{shuffled}
 use Rattle.runs.specs.Run.{ran}
 use Rattle.demands.specs.Figure1.{recv, dueTo, figure1, bySlot}

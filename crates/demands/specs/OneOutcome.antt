@@ -17,7 +17,7 @@ use Rattle.slots.specs.declared.SlotAnswer.{SlotAnswer}
 use Rattle.plans.specs.Plan.{planned}
 use Rattle.moves.specs.Moves.{moved, held, outcomeOf}
 use Rattle.moves.specs.Phases.{budgeted}
-use Rattle.copies.specs.Copies.{copied}
+use Rattle.factors.specs.Copies.{copied}
 use Rattle.shuffle.specs.Shuffle.{shuffled}
 use Rattle.runs.specs.Run.{ran}
 use Rattle.jobfile.specs.File.{read}

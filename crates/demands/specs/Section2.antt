@@ -10,8 +10,8 @@ use Rattle.counting.specs.Every.{All, Pairwise, In, Distinct}
 use Rattle.racks.specs.Limits.{FREE, HAND}
 use Rattle.racks.specs.Table.{dest}
 use Rattle.moves.specs.Blocks.{block}
-use Rattle.copies.specs.Copies.{copies, factors, copyList}
-use Rattle.copies.specs.Factors.{Before, unsettled, turning}
+use Rattle.factors.specs.Copies.{copies, factors, copyList}
+use Rattle.factors.specs.Factors.{Before, unsettled, turning}
 use Rattle.shuffle.specs.Shuffle.{brought}
 
 -- slot x and the slots behind it: each slot's card goes to the next

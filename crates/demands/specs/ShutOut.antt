@@ -15,7 +15,7 @@ use Rattle.answers.specs.declared.Tally.{Tally}
 use Rattle.plans.specs.Plan.{planned}
 use Rattle.moves.specs.Moves.{Held, Outcome}
 use Rattle.moves.specs.Phases.{phases, budgeted}
-use Rattle.copies.specs.Copies.{copyList}
+use Rattle.factors.specs.Copies.{copyList}
 use Rattle.runs.specs.Run.{gathered, ran}
 use Rattle.texts.specs.Text.{text}
 use Rattle.listing.specs.Listing.{listing}

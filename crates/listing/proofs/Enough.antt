@@ -24,11 +24,11 @@ use Rattle.moves.specs.Phases.{phasesFrom, phases}
 use Rattle.moves.specs.parts.Carrying.{AllSlots}
 use Rattle.moves.proofs.Phases.{phases-moves, phases-pairs}
 use Rattle.moves.proofs.FirstFit.{first-fit}
-use Rattle.copies.specs.Copies.{copyList}
-use Rattle.copies.specs.parts.Chains.{Chained}
-use Rattle.copies.proofs.Chains.{chained}
-use Rattle.copies.proofs.Costs.{list-most}
-use Rattle.copies.proofs.Home.{list-proper}
+use Rattle.factors.specs.Copies.{copyList}
+use Rattle.factors.specs.parts.Chains.{Chained}
+use Rattle.factors.proofs.Chains.{chained}
+use Rattle.factors.proofs.Costs.{list-most}
+use Rattle.factors.proofs.Home.{list-proper}
 use Rattle.shuffle.specs.Shuffle.{settledHeld}
 use Rattle.runs.specs.Run.{gathered, counts}
 use Rattle.runs.proofs.Rounds.{all-counted}

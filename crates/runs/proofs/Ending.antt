@@ -11,8 +11,8 @@ use Rattle.racks.specs.Job.{jobOf}
 use Rattle.racks.specs.declared.Job.{Job}
 use Rattle.moves.specs.Moves.{Held, held}
 use Rattle.moves.proofs.Outcomes.{outcome-cards}
-use Rattle.copies.specs.parts.Chains.{Chained}
-use Rattle.copies.proofs.Chains.{chained}
+use Rattle.factors.specs.parts.Chains.{Chained}
+use Rattle.factors.proofs.Chains.{chained}
 use Rattle.shuffle.specs.Shuffle.{settledHeld}
 use Rattle.shuffle.specs.parts.Hands.{Shuffled}
 use Rattle.shuffle.proofs.Shuffles.{settled-held}

@@ -21,7 +21,7 @@ use Rattle.moves.proofs.Carry.{stands-carried}
 use Rattle.moves.proofs.Phases.{phases-in-turn, phases-moves, phases-pairs}
 use Rattle.moves.proofs.FirstFit.{first-fit}
 use Rattle.moves.proofs.Kept.{Card, card-carried}
-use Rattle.copies.specs.Copies.{copyList}
+use Rattle.factors.specs.Copies.{copyList}
 use Rattle.shuffle.specs.Shuffle.{isNamed, settledHeld}
 use Rattle.shuffle.proofs.Settled.{settled-card, settled-blank, settled-self, settled-free}
 use Rattle.runs.specs.Run.{gathered, counts}

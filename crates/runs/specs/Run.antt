@@ -11,7 +11,7 @@ use Rattle.racks.specs.Numbers.{cardChecks}
 use Rattle.answers.specs.declared.Tally.{Tally}
 use Rattle.moves.specs.Moves.{Held, carried, Outcome, outcome}
 use Rattle.moves.specs.Phases.{phases}
-use Rattle.copies.specs.Copies.{copyList}
+use Rattle.factors.specs.Copies.{copyList}
 use Rattle.shuffle.specs.Shuffle.{settledHeld}
 
 -- the table and the cards after all phases

@@ -12,7 +12,7 @@ use Rattle.racks.specs.Racks.{Rack, slots}
 use Rattle.racks.specs.parts.Legal.{Legal, Spared}
 use Rattle.moves.specs.Moves.{Held}
 use Rattle.moves.proofs.Blocks.{below, block-long, length-blank}
-use Rattle.copies.proofs.Chains.{chained}
+use Rattle.factors.proofs.Chains.{chained}
 use Rattle.shuffle.specs.Shuffle.{brought, isNamed, lastCard, settledHeld}
 use Rattle.shuffle.proofs.Bytes.{length-brought}
 use Rattle.runs.specs.Run.{gathered}

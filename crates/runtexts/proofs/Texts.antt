@@ -19,10 +19,10 @@ use Rattle.moves.specs.parts.Carrying.{pairsIn}
 use Rattle.moves.proofs.Flat.{pairs-all}
 use Rattle.moves.proofs.Phases.{phases-pairs, phases-moves}
 use Rattle.moves.proofs.FirstFit.{first-fit}
-use Rattle.copies.specs.Copies.{copyList}
-use Rattle.copies.specs.parts.Chains.{Chained}
+use Rattle.factors.specs.Copies.{copyList}
+use Rattle.factors.specs.parts.Chains.{Chained}
 use Rattle.copies.specs.parts.Writes.{putCopies}
-use Rattle.copies.proofs.Costs.{list-most}
+use Rattle.factors.proofs.Costs.{list-most}
 use Rattle.copies.proofs.Writing.{length-put-copies}
 use Rattle.shuffle.specs.Shuffle.{settledHeld}
 use Rattle.shuffle.specs.parts.Hands.{Shuffled}

@@ -4,7 +4,7 @@ use Prim.Native.Nat.{ℕ}
 use Rattle.racks.specs.Racks.{Rack, slots}
 use Rattle.moves.specs.Moves.{Held}
 use Rattle.moves.specs.Phases.{phases}
-use Rattle.copies.specs.Copies.{copyList}
+use Rattle.factors.specs.Copies.{copyList}
 use Rattle.shuffle.specs.Shuffle.{settledHeld}
 use Rattle.runs.specs.Run.{gathered, counts}
 use Rattle.texts.specs.Lines.{phaseLines, copiesLine, cardsLine, endLine}

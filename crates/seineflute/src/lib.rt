@@ -8,7 +8,7 @@ ghost use Rattle.slots.specs.Slots.{asked};
 ghost use Rattle.plans.specs.Plan.{planned};
 ghost use Rattle.moves.specs.Moves.{moved, held, outcomeOf};
 ghost use Rattle.moves.specs.Phases.{budgeted};
-ghost use Rattle.copies.specs.Copies.{copied};
+ghost use Rattle.factors.specs.Copies.{copied};
 ghost use Rattle.shuffle.specs.Shuffle.{shuffled};
 ghost use Rattle.runs.specs.Run.{ran};
 ghost use Rattle.jobfile.specs.File.{read};

@@ -16,12 +16,12 @@ use Rattle.racks.specs.Limits.{FREE, HAND}
 use Rattle.racks.specs.Table.{dest}
 use Rattle.moves.specs.Blocks.{block, putBlock, blank}
 use Rattle.moves.proofs.Blocks.{length-put, length-blank, length-block, block-same, block-other}
-use Rattle.copies.specs.Copies.{next, copyList}
+use Rattle.factors.specs.Copies.{next, copyList}
 use Rattle.shuffle.specs.Shuffle.{Hands, taken, laid, runCopies, brought}
-use Rattle.copies.specs.parts.Chains.{Chained}
-use Rattle.copies.proofs.Chains.{next-is}
-use Rattle.copies.proofs.Runs.{put, run}
-use Rattle.copies.proofs.Home.{ProperCopy, list-proper, brings-home}
+use Rattle.factors.specs.parts.Chains.{Chained}
+use Rattle.factors.proofs.Chains.{next-is}
+use Rattle.factors.proofs.Runs.{put, run}
+use Rattle.factors.proofs.Home.{ProperCopy, list-proper, brings-home}
 
 -- cards of n slots and a card in the hand, b bytes each
 pub record Sized (b n : ℕ) (h : Hands) : Type 0 where

@@ -12,11 +12,12 @@ use Rattle.answers.specs.Answers.{plusCopies}
 use Rattle.answers.specs.declared.Tally.{Tally}
 use Rattle.moves.specs.Blocks.{block, putBlock, blank}
 use Rattle.moves.proofs.Blocks.{length-put, within}
-use Rattle.copies.specs.Copies.{next, shift, copies, copyList}
-use Rattle.copies.specs.parts.Chains.{Chained}
-use Rattle.copies.specs.parts.Writes.{steps, Inside, walkCount, Unmarked, due, Walked}
+use Rattle.factors.specs.Copies.{next, shift, copies, copyList}
+use Rattle.factors.specs.parts.Chains.{Chained}
+use Rattle.factors.specs.parts.Walks.{steps, Inside, walkCount, Walked}
+use Rattle.copies.specs.parts.Writes.{Unmarked, due}
 use Rattle.copies.proofs.Tallied.{plus-none, plus-both}
-use Rattle.copies.proofs.Writing.{inside-here, inside-step, walked-shift, walked-hand, count-shift, count-hand}
+use Rattle.factors.proofs.Walked.{inside-here, inside-step, walked-shift, walked-hand, count-shift, count-hand}
 use Rattle.copies.proofs.Progress.{Progress, progress-start, progress-end, progress-room, progress-more, few-copies, marked-none, counted-none, counted-due, due-copies}
 use Rattle.shuffle.specs.Shuffle.{Hands, taken, laid, runCopies, brought}
 use Rattle.shuffle.specs.parts.Hands.{handed, copyMade, slid, HandedAs, WalkBrought, SlotBrought, AllBrought}

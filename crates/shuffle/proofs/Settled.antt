@@ -21,10 +21,10 @@ use Rattle.racks.specs.parts.Legal.{Legal}
 use Rattle.moves.specs.Blocks.{block, blank}
 use Rattle.moves.specs.Moves.{Held}
 use Rattle.moves.proofs.Blocks.{length-block, length-blank}
-use Rattle.copies.specs.Copies.{next}
+use Rattle.factors.specs.Copies.{next}
 use Rattle.shuffle.specs.Shuffle.{brought, isNamed, lastEntry, lastCard, settledHeld}
-use Rattle.copies.specs.parts.Chains.{Chained}
-use Rattle.copies.proofs.Chains.{chained, next-is}
+use Rattle.factors.specs.parts.Chains.{Chained}
+use Rattle.factors.proofs.Chains.{chained, next-is}
 use Rattle.shuffle.proofs.Bytes.{brought-home, length-brought}
 
 -- slots of b bytes each, one after another

@@ -17,9 +17,9 @@ use Rattle.racks.specs.Limits.{FREE}
 use Rattle.racks.specs.Table.{names}
 use Rattle.moves.specs.Blocks.{block, putBlock, blank}
 use Rattle.moves.proofs.Blocks.{length-put, length-blank, block-same, block-other, blocks-ext}
-use Rattle.copies.specs.Copies.{source}
-use Rattle.copies.specs.parts.Chains.{Chained}
-use Rattle.copies.proofs.Chains.{seek-hit, seek-found}
+use Rattle.factors.specs.Copies.{source}
+use Rattle.factors.specs.parts.Chains.{Chained}
+use Rattle.factors.proofs.Chains.{seek-hit, seek-found}
 use Rattle.shuffle.specs.Shuffle.{isNamed, lastEntry, lastCard}
 use Rattle.shuffle.specs.parts.Hands.{entryBy, SlotSettled, FreeListed, TableSettled, AllBelow, Zeroed, AllSettled}
 use Rattle.shuffle.proofs.Settled.{last-named, last-free, card-named, card-free, length-last, length-slots, block-slots}

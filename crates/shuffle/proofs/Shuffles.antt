@@ -5,7 +5,6 @@ use mathlib.Core.List.{List, [], _∷_}
 use Prim.Native.Nat.{ℕ}
 use lib.ListN.{length}
 use Rattle.counting.specs.Lists.{tabulate, join}
-use Rattle.counting.specs.Checks.{first}
 use Rattle.counting.proofs.Checks.{first-here, first-later, first-none, refusal-here, refusal-past}
 use Rattle.answers.specs.Answers.{copiesOf}
 use Rattle.answers.specs.declared.Tally.{Tally}
@@ -16,7 +15,7 @@ use Rattle.racks.specs.declared.Job.{Job}
 use Rattle.tables.specs.parts.Tables.{cardsNumber}
 use Rattle.moves.specs.Moves.{Held}
 use Rattle.moves.proofs.Outcomes.{outcome-checks}
-use Rattle.copies.specs.Copies.{copyList}
+use Rattle.factors.specs.Copies.{copyList}
 use Rattle.shuffle.specs.Shuffle.{brought, lastEntry, lastCard, settledHeld, shuffleChecks, shuffled}
 use Rattle.shuffle.specs.parts.Hands.{Shuffled}
 use Rattle.shuffle.specs.parts.Shuffled.{shuffleNumber, shuffledBy}

@@ -5,8 +5,9 @@ ghost use lib.ListN.{length};
 ghost use Rattle.racks.specs.Limits.{BYTES, SLOTS};
 ghost use Rattle.racks.specs.Job.{Fit};
 ghost use Rattle.moves.specs.Moves.{held, outcomeOf};
-ghost use Rattle.copies.specs.parts.Chains.{Chained};
-ghost use Rattle.copies.specs.parts.Writes.{Sources, Unmarked};
+ghost use Rattle.factors.specs.parts.Chains.{Chained};
+ghost use Rattle.factors.specs.parts.Walks.{Sources};
+ghost use Rattle.copies.specs.parts.Writes.{Unmarked};
 ghost use Rattle.shuffle.specs.parts.Hands.{AllBrought, entryBy, SlotSettled, TableSettled, AllBelow, Zeroed, AllSettled, Shuffled};
 ghost use Rattle.shuffle.specs.parts.Shuffled.{shuffledBy};
 use answers::Answer;
@@ -91,7 +92,7 @@ pub fn zero_slots(frees: &[u16; Job::MAX_SLOTS], n: usize, cards: &mut [u8], b: 
 {
     let mut i: usize = 0;
     while i < n {
-        let slot = copies::parts::wide(frees[i]);
+        let slot = factors::parts::wide(frees[i]);
         moves::parts::blank_card(cards, b, slot);
         i = i + 1;
     }
@@ -113,7 +114,7 @@ pub fn settle(b: usize, places: &mut [u16], cards: &mut [u8], tally: Tally) -> T
     ensures { λ r. ⌜ Shuffled b (now (places .entry)) (now (cards .entry)) tally r (now (places .exit)) (now (cards .exit)) ⌝ }
 {
     let mut sources = [Job::FREE; Job::SOURCES];
-    copies::parts::walks::fill_sources(places, &mut sources);
+    factors::parts::walks::fill_sources(places, &mut sources);
     let mut seen = [0u8; Job::MAX_SLOTS];
     let mut hand = [0u8; Job::MAX_BYTES];
     let counted = bring_factors(places, &sources, &mut seen, cards, &mut hand, b, tally);

@@ -4,11 +4,11 @@ ghost use mathlib.Core.List.{[], _∷_};
 ghost use Prim.Native.Nat.{_+_, _*_, _≤_, _<_};
 ghost use lib.ListN.{length, replicate};
 ghost use Rattle.racks.specs.Limits.{COPIES, SLOTS};
-ghost use Rattle.copies.specs.Copies.{next, shift, copies, copyList};
-ghost use Rattle.copies.specs.parts.Chains.{Chained};
-ghost use Rattle.copies.specs.parts.Writes.{Sources, putCopies, steps, Inside, walked, walkCount, Unmarked, due, Counted, Written, AllWritten, fits};
-use crate::parts;
-use crate::parts::walks;
+ghost use Rattle.factors.specs.Copies.{next, shift, copies, copyList};
+ghost use Rattle.factors.specs.parts.Chains.{Chained};
+ghost use Rattle.factors.specs.parts.Walks.{Sources, steps, Inside, walked, walkCount};
+ghost use Rattle.copies.specs.parts.Writes.{putCopies, Unmarked, due, Counted, Written, AllWritten, fits};
+use factors::parts::walks;
 use racks::Job;
 
 // How many copies a factor has: one for each slot after the first, and two more by the hand.
@@ -102,7 +102,7 @@ pub fn write_shift(places: &&[u16], list: &mut [u16], x: usize, left: usize, at:
         return at;
     }
     let y = places[x];
-    let e = write_shift(places, list, parts::wide(y), left - 1, at);
+    let e = write_shift(places, list, factors::parts::wide(y), left - 1, at);
     put_copy(list, e, x as u16, y);
     e + 1
 }

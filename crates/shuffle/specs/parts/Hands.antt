@@ -11,8 +11,9 @@ use Rattle.racks.specs.Limits.{FREE, BYTES, SLOTS}
 use Rattle.moves.specs.Blocks.{block, putBlock, blank}
 use Rattle.answers.specs.Answers.{plusCopies}
 use Rattle.answers.specs.declared.Tally.{Tally}
-use Rattle.copies.specs.Copies.{source, copies, copyList}
-use Rattle.copies.specs.parts.Writes.{walked, walkCount, due, Counted}
+use Rattle.factors.specs.Copies.{source, copies, copyList}
+use Rattle.factors.specs.parts.Walks.{walked, walkCount}
+use Rattle.copies.specs.parts.Writes.{due, Counted}
 use Rattle.shuffle.specs.Shuffle.{Hands, taken, laid, runCopies, brought, lastEntry, lastCard}
 
 -- the cards, and the card in the first b bytes of the library's hand

@@ -9,7 +9,7 @@ use Rattle.racks.specs.Job.{racksOf}
 use Rattle.racks.specs.declared.Job.{Job}
 use Rattle.tables.specs.parts.Tables.{cardsNumber}
 use Rattle.moves.specs.Moves.{Held, Outcome, outcome}
-use Rattle.copies.specs.Copies.{copyList}
+use Rattle.factors.specs.Copies.{copyList}
 use Rattle.shuffle.specs.Shuffle.{settledHeld}
 
 -- the number of the shuffle, by a job: that of the table and its cards, then 12

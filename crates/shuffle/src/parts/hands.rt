@@ -5,9 +5,10 @@ ghost use Prim.Native.Nat.{_+_, _*_, _≤_, _<_};
 ghost use lib.ListN.{length, take};
 ghost use Rattle.racks.specs.Limits.{FREE, BYTES, COPIES, SLOTS};
 ghost use Rattle.moves.specs.Blocks.{block, putBlock};
-ghost use Rattle.copies.specs.Copies.{next, shift, copies};
-ghost use Rattle.copies.specs.parts.Chains.{Chained};
-ghost use Rattle.copies.specs.parts.Writes.{Sources, steps, Inside, walkCount, due};
+ghost use Rattle.factors.specs.Copies.{next, shift, copies};
+ghost use Rattle.factors.specs.parts.Chains.{Chained};
+ghost use Rattle.factors.specs.parts.Walks.{Sources, steps, Inside, walkCount};
+ghost use Rattle.copies.specs.parts.Writes.{due};
 ghost use Rattle.shuffle.specs.parts.Hands.{slid, WalkBrought, SlotBrought};
 use racks::Job;
 
@@ -39,7 +40,7 @@ pub fn bring(places: &&[u16], cards: &mut [u8], b: usize, x: usize, left: usize)
     if left == 0 {
         return 0;
     }
-    let to = copies::parts::wide(places[x]);
+    let to = factors::parts::wide(places[x]);
     let made = bring(places, cards, b, to, left - 1);
     moves::parts::copy_card(cards, b, x, to);
     made + 1
@@ -61,7 +62,7 @@ pub fn bring_walk(
     if end == Job::FREE {
         return bring(&places, cards, b, head, left);
     }
-    take_card(cards, hand, b, copies::parts::wide(end));
+    take_card(cards, hand, b, factors::parts::wide(end));
     let made = bring(&places, cards, b, head, left);
     lay_card(cards, hand, b, head);
     made + 2
@@ -83,6 +84,6 @@ pub fn bring_slot(
     if seen[k] == 1 {
         return 0;
     }
-    let w = copies::parts::walks::walk_factor(places, sources, seen, 1, k);
+    let w = factors::parts::walks::walk_factor(places, sources, seen, 1, k);
     bring_walk(places, cards, hand, b, w.head, w.left, w.end)
 }

@@ -6,7 +6,7 @@ use Rattle.answers.proofs.Answers.{listed-refused}
 use Rattle.racks.specs.Numbers.{someAway}
 use Rattle.racks.specs.Job.{racksOf}
 use Rattle.tables.specs.parts.Tables.{Open, tableNumber}
-use Rattle.copies.specs.Copies.{copyList}
+use Rattle.factors.specs.Copies.{copyList}
 use Rattle.copies.specs.parts.Writes.{copyNumber, copiedBy}
 use Rattle.copies.proofs.Accepted.{open-chained, open-away}
 use Rattle.copies.proofs.Copied.{copied-table, copied-away, copied-home}

@@ -1,6 +1,6 @@
 use borrow.Author.Needs.{needs}
 use native.Mathlib.Omega.{arith}
-use Rattle.copies.proofs.Sourced.{named-low}
+use Rattle.factors.proofs.Sourced.{named-low}
 use Rattle.tables.proofs.Targets.{at-away}
 use Rattle.copies.proofs.parts.is_away.Statement.{statement}
 use Rattle.copies.proofs.parts.is_away.Tie as tie

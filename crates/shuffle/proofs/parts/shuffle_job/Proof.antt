@@ -10,7 +10,7 @@ use Rattle.racks.specs.Job.{racksOf}
 use Rattle.tables.specs.parts.Tables.{OpenCards, cardsNumber}
 use Rattle.moves.specs.Moves.{held}
 use Rattle.moves.proofs.Outcomes.{outcome-refused, outcome-done}
-use Rattle.copies.specs.Copies.{copyList}
+use Rattle.factors.specs.Copies.{copyList}
 use Rattle.copies.proofs.Accepted.{open-chained, open-away}
 use Rattle.shuffle.specs.Shuffle.{settledHeld}
 use Rattle.shuffle.specs.parts.Shuffled.{shuffleNumber, shuffledBy}

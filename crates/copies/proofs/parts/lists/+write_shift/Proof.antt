@@ -4,8 +4,9 @@ use borrow.Fn.PlainCycle.{Measures}
 use mathlib.Core.Path.{_≡_, _∙_}
 use Prim.Native.Nat.{ℕ, _<_}
 use native.Mathlib.Omega.{arith}
-use Rattle.copies.proofs.Writing.{inside-here, inside-next, shift-none, shift-more, put-long}
-use Rattle.copies.proofs.parts.wide.Reads as wide
+use Rattle.factors.proofs.Walked.{inside-here, inside-next}
+use Rattle.copies.proofs.Writing.{shift-none, shift-more, put-long}
+use Rattle.factors.proofs.parts.wide.Reads as wide
 use Rattle.copies.proofs.parts.lists.put_copy.Reads as put-copy
 use Rattle.copies.proofs.parts.lists.write_shift.Reads as self
 use Rattle.copies.proofs.parts.lists.write_shift.Kinds as kinds

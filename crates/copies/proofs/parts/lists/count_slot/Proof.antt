@@ -1,5 +1,5 @@
-use Rattle.copies.specs.parts.Writes.{walkCount}
-use Rattle.copies.proofs.Writing.{walk-left}
+use Rattle.factors.specs.parts.Walks.{walkCount}
+use Rattle.factors.proofs.Walked.{walk-left}
 use Rattle.copies.proofs.Progress.{counted-none, counted-due, due-count}
 use mathlib.Core.Path.{ap}
 use Prim.Native.Nat.{ℕ, _+_, _≤_}

@@ -1,4 +1,4 @@
-use Rattle.copies.specs.parts.Writes.{walkCount}
+use Rattle.factors.specs.parts.Walks.{walkCount}
 use borrow.Author.Tests.{eq-eqb, ne-eqb}
 use borrow.Author.Needs.{needs}
 use Rattle.copies.proofs.parts.lists.count_walk.Statement.{statement}

@@ -1,4 +1,5 @@
-use Rattle.copies.proofs.Writing.{count-shift, count-hand, wrote-shift, wrote-hand, inside-here, put-long}
+use Rattle.factors.proofs.Walked.{count-shift, count-hand, inside-here}
+use Rattle.copies.proofs.Writing.{wrote-shift, wrote-hand, put-long}
 use mathlib.Core.Path.{refl}
 use native.Mathlib.Omega.{arith}
 use borrow.Author.Needs.{needs}

@@ -2,7 +2,7 @@ use mathlib.Core.Path.{_≡_, ap}
 use native.Mathlib.Omega.{arith}
 use lib.ListN.{length}
 use Rattle.answers.specs.declared.Tally.{Tally}
-use Rattle.copies.specs.Copies.{copyList}
+use Rattle.factors.specs.Copies.{copyList}
 use Rattle.copies.proofs.Progress.{few-copies}
 use Rattle.runtexts.proofs.Texts.{copies-long, copies-read}
 use borrow.Author.Needs.{needs}

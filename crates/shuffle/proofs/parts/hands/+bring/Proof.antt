@@ -4,8 +4,8 @@ use borrow.Fn.PlainCycle.{Measures}
 use mathlib.Core.Path.{_≡_}
 use Prim.Native.Nat.{ℕ, _<_}
 use native.Mathlib.Omega.{arith}
-use Rattle.copies.proofs.Writing.{inside-here, inside-next}
-use Rattle.copies.proofs.parts.wide.Reads as wide
+use Rattle.factors.proofs.Walked.{inside-here, inside-next}
+use Rattle.factors.proofs.parts.wide.Reads as wide
 use Rattle.moves.proofs.parts.copy_card.Reads as copy-card
 use Rattle.shuffle.proofs.Copying.{slid-none, slid-more, slid-within, slid-long}
 use Rattle.shuffle.proofs.parts.hands.bring.Reads as self

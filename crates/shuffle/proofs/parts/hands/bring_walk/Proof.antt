@@ -1,5 +1,5 @@
 use Rattle.shuffle.proofs.Copying.{brought-shift, brought-hand, slid-within}
-use Rattle.copies.proofs.Writing.{inside-here, count-shift, count-hand}
+use Rattle.factors.proofs.Walked.{inside-here, count-shift, count-hand}
 use Rattle.moves.proofs.Blocks.{within}
 use lib.ListN.{length}
 use native.Mathlib.Omega.{arith}

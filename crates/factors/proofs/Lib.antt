@@ -1,0 +1,13 @@
+pub mod Members
+pub mod Walks
+pub mod Chains
+pub mod Factors
+pub mod Runs
+pub mod Costs
+pub mod Home
+pub mod Counted
+pub mod OneRack
+pub mod Sourced
+pub mod Walking
+pub mod Behind
+pub mod Walked

@@ -1,0 +1,2 @@
+// Factors: the shifts and cycles of a table, and the walk through one.
+pub mod parts;

@@ -1,0 +1,146 @@
+// The chains of a table, for the copy list and for the shuffle: its inverse, and the walk through the factor of a slot.
+ghost use mathlib.Core.Path.{_≡_};
+ghost use Prim.Native.Nat.{_<_};
+ghost use lib.ListN.{length};
+ghost use Rattle.racks.specs.Limits.{SLOTS, SOURCES};
+ghost use Rattle.tables.specs.parts.Tables.{namedSlot};
+ghost use Rattle.factors.specs.parts.Chains.{Chained};
+ghost use Rattle.factors.specs.parts.Walks.{noSources, Sources, putSource, handEnd, Passed, MarkedOn, MarkedBack, Walked};
+use crate::parts;
+use racks::Job;
+
+// A factor: its first slot, how many slots follow, and on a cycle of two slots or more the slot whose card goes to the hand, else 65,535. One
+// way through it, on or back: its last slot, how many slots were passed, and the entry there.
+pub struct Walk {
+    pub head: usize,
+    pub left: usize,
+    pub end: u16,
+}
+
+// One entry of the inverse: the card in slot g is bound for slot x. Of a free slot it is stored behind all slots, where nothing is read: so
+// there is no branch, which could not be foretold where free and taken slots alternate at random.
+pub fn put_source(sources: &mut [u16; Job::SOURCES], x: u16, g: usize)
+    requires { ⌜ (length (now sources) ≡ SOURCES) × (g < SLOTS) × (namedSlot SLOTS x < SOURCES) ⌝ }
+    ensures { λ _. ⌜ now (sources .exit) ≡ putSource (now (sources .entry)) x g ⌝ }
+{
+    let to = tables::parts::named_slot(x, Job::MAX_SLOTS);
+    sources[to] = g as u16;
+}
+
+// The inverse of the table, for each slot the slot whose card is bound for it, in one pass over a table as it was made.
+pub fn fill_sources(places: &[u16], sources: &mut [u16; Job::SOURCES])
+    requires { ⌜ Chained (now places) × (now sources ≡ noSources) ⌝ }
+    ensures { λ _. ⌜ Sources (now (places .entry)) (now (sources .exit)) ⌝ }
+{
+    let mut g: usize = 0;
+    while g < places.len() {
+        put_source(sources, places[g], g);
+        g = g + 1;
+    }
+}
+
+// Whose card goes to the hand, where `from` is the slot whose card comes to the first and n slots follow that: nobody's on a lone slot.
+pub fn hand_end(from: u16, n: usize) -> u16
+    ensures { λ r. ⌜ r ≡ handEnd from n ⌝ }
+{
+    if n == 0 {
+        return Job::FREE;
+    }
+    from
+}
+
+// Marks the slots that follow slot h by a table, up to an entry that is 65,535 or h.
+pub fn mark_along(table: &[u16], seen: &mut [u8; Job::MAX_SLOTS], mark: u8, h: usize) -> Walk
+    requires { ⌜ Chained (now table) × (h < length (now table)) × (length (now seen) ≡ SLOTS) ⌝ }
+    ensures { λ r. ⌜ Passed (now (table .entry)) mark h (now (seen .entry)) (r .head) (r .left) (r .end) (now (seen .exit)) ⌝ }
+{
+    let mut x = h;
+    let mut n: usize = 0;
+    while n < table.len() {
+        let y = table[x];
+        if y == Job::FREE {
+            return Walk {
+                head: x,
+                left: n,
+                end: y,
+            };
+        }
+        let to = parts::wide(y);
+        if to == h {
+            return Walk {
+                head: x,
+                left: n,
+                end: y,
+            };
+        }
+        seen[to] = mark;
+        x = to;
+        n = n + 1;
+    }
+    Walk {
+        head: x,
+        left: n,
+        end: Job::FREE,
+    }
+}
+
+// Marks slot h and the slots that follow it. Where that comes to h again, the walk is that of h's factor, a cycle.
+pub fn mark_on(places: &[u16], seen: &mut [u8; Job::MAX_SLOTS], mark: u8, h: usize) -> Walk
+    requires { ⌜ Chained (now places) × (h < length (now places)) × (length (now seen) ≡ SLOTS) ⌝ }
+    ensures { λ r. ⌜ MarkedOn (now (places .entry)) mark h (now (seen .entry)) (r .head) (r .left) (r .end) (now (seen .exit)) ⌝ }
+{
+    seen[h] = mark;
+    let w = mark_along(places, seen, mark, h);
+    if w.end == Job::FREE {
+        return Walk {
+            head: h,
+            left: w.left,
+            end: Job::FREE,
+        };
+    }
+    let end = hand_end(w.head as u16, w.left);
+    Walk {
+        head: h,
+        left: w.left,
+        end,
+    }
+}
+
+// Marks the slots on the way back from slot k: on, by the inverse. What is stored behind its slots is no entry, so that is not lent.
+pub fn mark_back(
+    places: &[u16],
+    sources: &[u16; Job::SOURCES],
+    seen: &mut [u8; Job::MAX_SLOTS],
+    mark: u8,
+    k: usize,
+) -> Walk
+    requires { ⌜ Chained (now places) × Sources (now places) (now sources) × (k < length (now places)) × (length (now seen) ≡ SLOTS) ⌝ }
+    ensures { λ r. ⌜ MarkedBack (now (places .entry)) mark k (now (seen .entry)) (r .head) (r .left) (now (seen .exit)) ⌝ }
+{
+    let all = &sources[..];
+    let n = places.len();
+    mark_along(&all[..n], seen, mark, k)
+}
+
+// The walk through the factor of slot k, which is marked.
+pub fn walk_factor(
+    places: &[u16],
+    sources: &[u16; Job::SOURCES],
+    seen: &mut [u8; Job::MAX_SLOTS],
+    mark: u8,
+    k: usize,
+) -> Walk
+    requires { ⌜ Chained (now places) × Sources (now places) (now sources) × (k < length (now places)) × (length (now seen) ≡ SLOTS) ⌝ }
+    ensures { λ r. ⌜ Walked (now (places .entry)) mark k (now (seen .entry)) (r .head) (r .left) (r .end) (now (seen .exit)) ⌝ }
+{
+    let on = mark_on(places, seen, mark, k);
+    if on.end != Job::FREE {
+        return on;
+    }
+    let back = mark_back(places, sources, seen, mark, k);
+    Walk {
+        head: back.head,
+        left: back.left + on.left,
+        end: Job::FREE,
+    }
+}
