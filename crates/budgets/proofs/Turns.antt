@@ -12,7 +12,6 @@ use Rattle.counting.proofs.Every.{all-map}
 use Rattle.racks.specs.Racks.{Rack, slots}
 use Rattle.racks.specs.Table.{aways}
 use Rattle.racks.specs.Numbers.{someAway}
-use Rattle.racks.specs.parts.Legal.{Legal, Spared}
 use Rattle.racks.proofs.Geometry.{rack-lt}
 use Rattle.racks.proofs.Away.{aways-few}
 use Rattle.racks.proofs.Jobs.{sound-few}
@@ -20,7 +19,6 @@ use Rattle.racks.specs.Job.{racksOf}
 use Rattle.racks.specs.declared.Job.{Job}
 use Rattle.answers.specs.declared.Tally.{Tally}
 use Rattle.answers.specs.Answers.{noCounts}
-use Rattle.tables.specs.parts.Tables.{Filled}
 use Rattle.plans.specs.Plan.{plan}
 use Rattle.plans.proofs.Plans.{plan-allowed, plan-aways, plan-few}
 use Rattle.queues.specs.parts.Queues.{rowsOf, queuedPlan}

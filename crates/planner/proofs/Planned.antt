@@ -6,7 +6,6 @@ use native.Mathlib.Omega.{arith}
 use lib.ListN.{length}
 use borrow.Author.Tests.{lt-ltb, le-ltb}
 use Rattle.counting.specs.Lists.{flat}
-use Rattle.counting.specs.Checks.{first}
 use Rattle.counting.proofs.Checks.{first-here, first-later, first-none, refusal-here, refusal-past}
 use Rattle.counting.proofs.Stores.{length-flat}
 use Rattle.answers.specs.Answers.{movesOf}

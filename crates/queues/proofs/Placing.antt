@@ -5,18 +5,14 @@ use Prim.Native.Nat.{ℕ, suc, _+_, _≤_, _<_}
 use native.Mathlib.Omega.{arith}
 use native.Mathlib.Decide.{ℕ-discrete, decLe}
 use native.Mathlib.Numerals.{add-one}
-use lib.ListN.{length, getD}
+use lib.ListN.{length}
 use borrow.Author.Tests.{le-leb, lt-leb}
 use Rattle.counting.specs.Tests.{_and_, bit}
 use Rattle.counting.specs.Count.{count}
 use Rattle.counting.proofs.Tests.{and-off-l}
 use Rattle.counting.proofs.Count.{count-zero, count-cong}
-use Rattle.racks.specs.Racks.{Rack, base, slots}
+use Rattle.racks.specs.Racks.{Rack, base}
 use Rattle.racks.specs.Table.{free, freeOn}
-use Rattle.racks.specs.Job.{racksOf, Sound}
-use Rattle.racks.specs.declared.Job.{Job}
-use Rattle.racks.proofs.Geometry.{base-mono, end-le}
-use Rattle.racks.proofs.Jobs.{sound-racks, sound-ends, sound-count}
 use Rattle.plans.specs.Plan.{room}
 use Rattle.queues.specs.parts.Line.{Blank}
 use Rattle.queues.specs.parts.Queued.{freeFrom, begins, placed, Placed}

@@ -2,7 +2,7 @@
 -- Assumes nothing.
 use mathlib.Core.Path.{_≡_, refl, ap, sym, _∙_}
 use mathlib.Core.Bool.{Bool, true, false, not}
-use mathlib.Core.List.{List, [], _∷_, _++_}
+use mathlib.Core.List.{List, _∷_, _++_}
 use Prim.Native.Nat.{ℕ, _*_, _≤_, _<_}
 use native.Mathlib.Omega.{arith}
 use native.Mathlib.Decide.{ℕ-discrete}
@@ -22,7 +22,7 @@ use Rattle.racks.specs.Numbers.{badCount, badBytes, badSize, badPlaces, badCard
 use Rattle.racks.specs.Job.{rackChecks, racksOf, jobOf, Sound, Fit}
 use Rattle.racks.specs.declared.Job.{Job}
 use Rattle.racks.proofs.Jobs.{sound-refused, sound-slots, of-refused, of-racks}
-use Rattle.racks.proofs.Legal.{racks-good, checks-racks, checks-places, checks-4, checks-entries}
+use Rattle.racks.proofs.Legal.{checks-racks, checks-places, checks-4, checks-entries}
 use Rattle.racks.specs.parts.Legal.{Legal}
 use Rattle.racks.proofs.LegalTable.{places-legal}
 use Rattle.tables.specs.Check.{checked}

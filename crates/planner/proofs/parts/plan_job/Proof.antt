@@ -2,7 +2,7 @@ use mathlib.Core.Path.{_≡_, ap, sym, _∙_}
 use native.Mathlib.Omega.{arith}
 use lib.ListN.{length}
 use Rattle.counting.specs.Lists.{flat}
-use Rattle.answers.specs.Answers.{movesOf, answer}
+use Rattle.answers.specs.Answers.{movesOf}
 use Rattle.answers.proofs.Answers.{listed-refused, listed-done}
 use Rattle.racks.specs.Job.{racksOf}
 use Rattle.tables.specs.parts.Tables.{Open, tableNumber}

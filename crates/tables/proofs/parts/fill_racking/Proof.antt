@@ -1,7 +1,7 @@
 use borrow.Author.Needs.{needs}
 use native.Mathlib.Omega.{arith}
-use Prim.Native.Nat.{_-_, _≤_, _<_}
-use mathlib.Core.Path.{_≡_, refl, sym, ap, _∙_}
+use Prim.Native.Nat.{_-_}
+use mathlib.Core.Path.{_≡_, _∙_}
 use lib.ListN.{length}
 use Rattle.racks.specs.Job.{racksOf}
 use Rattle.racks.proofs.Passing.{At, Bounds, at-first, at-bounds, at-next, at-behind}

@@ -1,6 +1,6 @@
 use native.Mathlib.Omega.{arith}
-use mathlib.Core.Path.{_≡_, sym, ap, _∙_}
-use Prim.Native.Nat.{_-_, _≤_}
+use mathlib.Core.Path.{_≡_}
+use Prim.Native.Nat.{_-_}
 use Rattle.racks.specs.Job.{racksOf}
 use Rattle.queues.specs.parts.Queued.{Placed}
 use Rattle.racks.proofs.Passing.{At, Bounds, at-first, at-bounds, at-next}

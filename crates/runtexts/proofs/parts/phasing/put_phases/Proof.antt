@@ -2,7 +2,7 @@ use borrow.Author.Needs.{needs}
 use native.Mathlib.Omega.{arith}
 use native.Mathlib.Numerals.{add-one}
 use mathlib.Core.Path.{_≡_, refl, sym, ap, _∙_}
-use Prim.Native.Nat.{suc, _*_, _-_, _≤_}
+use Prim.Native.Nat.{_*_, _-_, _≤_}
 use lib.ListN.{length}
 use Rattle.runtexts.specs.parts.Logs.{madeBefore}
 use Rattle.runtexts.proofs.Phasing.{Lines, before-first, lines-first, line-room, lines-next, lines-done, made-next, phase-here}
