@@ -1,6 +1,5 @@
 // Answers: the counts and the number that every call gives.
-ghost use mathlib.Core.Path.{_≡_};
-ghost use Rattle.answers.specs.Answers.{noCounts, movesOf, copiesOf, answer};
+ghost use Rattle.answers.specs.Answers.{TallyNone, TallyOfMoves, TallyOfCopies, AnswerOf, AnswerDone};
 
 pub mod parts;
 
@@ -13,14 +12,14 @@ pub struct Tally {
 
 impl Tally {
     pub fn none() -> Tally
-        ensures { λ r. ⌜ r ≡ noCounts ⌝ }
+        ensures { λ r. ⌜ TallyNone r ⌝ }
     {
         Tally::of_moves(0)
     }
 
     // The counts of a call that makes or plans so many moves.
     pub fn of_moves(moves: usize) -> Tally
-        ensures { λ r. ⌜ r ≡ movesOf moves ⌝ }
+        ensures { λ r. ⌜ TallyOfMoves moves r ⌝ }
     {
         Tally {
             phases: 0,
@@ -31,7 +30,7 @@ impl Tally {
 
     // The counts of a call that makes or lists so many copies.
     pub fn of_copies(copies: usize) -> Tally
-        ensures { λ r. ⌜ r ≡ copiesOf copies ⌝ }
+        ensures { λ r. ⌜ TallyOfCopies copies r ⌝ }
     {
         Tally {
             phases: 0,
@@ -50,7 +49,7 @@ pub struct Answer {
 impl Answer {
     // A number with no counts.
     pub fn of(number: u8) -> Answer
-        ensures { λ r. ⌜ r ≡ answer number noCounts ⌝ }
+        ensures { λ r. ⌜ AnswerOf number r ⌝ }
     {
         let tally = Tally::none();
         Answer { number, tally }
@@ -58,7 +57,7 @@ impl Answer {
 
     // Done, with the counts.
     pub fn done(tally: Tally) -> Answer
-        ensures { λ r. ⌜ r ≡ answer 0 tally ⌝ }
+        ensures { λ r. ⌜ AnswerDone tally r ⌝ }
     {
         Answer { number: 0, tally }
     }

@@ -30,9 +30,10 @@ use Rattle.queues.proofs.Line.{queue-long}
 use Rattle.moves.specs.Moves.{carriedPlaces}
 use Rattle.moves.specs.Turns.{InTurn}
 use Rattle.moves.proofs.Carry.{pairs-in-turn}
+use Rattle.moves.proofs.Rooms.{lands}
 use Rattle.moves.proofs.Waits.{waits-carried}
 use Rattle.budgets.specs.parts.Engine.{noted, notedLine}
-use Rattle.budgets.proofs.Shows.{lands, Midway, midway-carried}
+use Rattle.budgets.proofs.Shows.{Midway, midway-carried}
 
 -- moves that all land on rack q
 module _ (racks : List Rack) (p q : ℕ) where

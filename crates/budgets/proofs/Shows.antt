@@ -1,21 +1,17 @@
 -- The set of free slots and each rack's room, with moves noted, are those of the table after the moves. Assumes nothing.
-use mathlib.Core.Path.{_≡_, refl, sym, ap, _∙_}
-use mathlib.Core.Bool.{Bool, false}
+use mathlib.Core.Path.{_≡_, sym, ap, _∙_}
 use mathlib.Core.Logic.{_≢_}
 use mathlib.Core.List.{List, [], _∷_}
-use Prim.Native.Nat.{ℕ, suc, _+_, _≤_, _<_}
+use Prim.Native.Nat.{ℕ, _+_, _≤_, _<_}
 use native.Mathlib.Omega.{arith}
 use native.Mathlib.Decide.{ℕ-discrete}
-use lib.Dec.{eqb}
 use lib.ListN.{length, getD, length-set}
 use lib.Seq.{getD-set-same, getD-set-other}
-use borrow.Author.Tests.{eqb-false, eq-eqb, ne-eqb}
+use borrow.Author.Tests.{eq-eqb, ne-eqb}
 use Rattle.counting.specs.Tests.{bit}
 use Rattle.counting.specs.Lists.{Pair, matching}
-use Rattle.counting.proofs.Tests.{and-off-l, and-off-r, both, not-on, and-r}
-use Rattle.counting.proofs.Count.{count-cong, count-change}
 use Rattle.racks.specs.Racks.{Rack, slots, rackOf}
-use Rattle.racks.specs.Table.{free, onRack, away, freeOn}
+use Rattle.racks.specs.Table.{free}
 use Rattle.racks.specs.parts.Legal.{Legal}
 use Rattle.racks.proofs.Geometry.{rack-lt}
 use Rattle.tables.specs.parts.Tables.{Filled}
@@ -29,73 +25,10 @@ use Rattle.queues.specs.parts.Openings.{Shown}
 use Rattle.queues.proofs.Line.{queue-kept}
 use Rattle.moves.specs.Moves.{movedPlaces, carriedPlaces}
 use Rattle.moves.proofs.Moved.{legal-moved, allowed-free, free-from, same-free, taken-to}
+use Rattle.moves.proofs.Rooms.{lands, room-moved}
 use Rattle.moves.specs.Turns.{InTurn}
 use Rattle.moves.specs.Turns.InTurn.{stop, next}
 use Rattle.budgets.specs.parts.Engine.{note, noted, noteLine, notedLine}
-
--- a move lands on rack p
-unfoldable pub lands : List Rack → ℕ → Pair → Bool
-lands racks p m = eqb (rackOf racks (m .1)) p
-
-module _ {racks : List Rack} {places : List ℕ} {m : Pair} (l : Legal racks places) (a : Allowed racks places m) where
-  -- the two ends of an allowed move are on two racks
-  ends-differ : rackOf racks (m .0) ≢ rackOf racks (m .1)
-  unfolding away onRack
-  ends-differ e = eqb-false _ _ (not-on (and-r _ (a .is-away))) (e ∙ a .meets)
-
-  -- a slot of another rack is no free slot of p
-  other-rack : (places′ : List ℕ) (p g : ℕ) → rackOf racks g ≢ p → freeOn racks places′ p g ≡ false
-  unfolding freeOn
-  other-rack places′ p g d = and-off-r (free places′ g) (ne-eqb _ _ d)
-
-  -- a slot that is no end is free on p as it was
-  same-on : (p g : ℕ) → g ≢ m .0 → g ≢ m .1 → freeOn racks (movedPlaces m places) p g ≡ freeOn racks places p g
-  unfolding freeOn
-  same-on p g d e = rw (same-free l (allowed-free a) g d e)
-
-  -- the rack that a card leaves has one free slot more
-  room-from : room racks (movedPlaces m places) (rackOf racks (m .0)) ≡ suc (room racks places (rackOf racks (m .0)))
-  unfolding room freeOn
-  room-from = count-change (slots racks) _ _ (m .0) (a .from-lt)
-      (both (free-from l (allowed-free a)) (eq-eqb (rackOf racks (m .0)) _ refl))
-      (and-off-l _ (allowed-free a .is-held))
-      (λ j _ d. elim (ℕ-discrete j (m .1)) [
-        | yes e ↦ rw e (other-rack (movedPlaces m places) (rackOf racks (m .0)) (m .1) (λ q. ends-differ (sym q)) ∙ sym (other-rack places (rackOf racks (m .0)) (m .1) (λ q. ends-differ (sym q))))
-        | no e ↦ same-on (rackOf racks (m .0)) j d e
-      ])
-
-  -- the rack that it comes to has one less
-  room-to : room racks places (rackOf racks (m .1)) ≡ suc (room racks (movedPlaces m places) (rackOf racks (m .1)))
-  unfolding room freeOn
-  room-to = count-change (slots racks) _ _ (m .1) (a .to-lt)
-      (both (a .is-free) (eq-eqb (rackOf racks (m .1)) _ refl))
-      (and-off-l _ (taken-to l (allowed-free a)))
-      (λ j _ d. elim (ℕ-discrete j (m .0)) [
-        | yes e ↦ rw e (other-rack places (rackOf racks (m .1)) (m .0) ends-differ ∙ sym (other-rack (movedPlaces m places) (rackOf racks (m .1)) (m .0) ends-differ))
-        | no e ↦ sym (same-on (rackOf racks (m .1)) j e d)
-      ])
-
-  -- any other has as many
-  room-else : (p : ℕ) → rackOf racks (m .0) ≢ p → rackOf racks (m .1) ≢ p → room racks (movedPlaces m places) p ≡ room racks places p
-  unfolding room
-  room-else p d e = count-cong (slots racks) _ _ (λ j _. elim (ℕ-discrete j (m .0)) [
-    | yes i ↦ rw i (other-rack (movedPlaces m places) p (m .0) d ∙ sym (other-rack places p (m .0) d))
-    | no i ↦ elim (ℕ-discrete j (m .1)) [
-      | yes k ↦ rw k (other-rack (movedPlaces m places) p (m .1) e ∙ sym (other-rack places p (m .1) e))
-      | no k ↦ same-on p j i k
-    ]
-  ])
-
-  -- the room of each rack: one more where the move came from, one less where it went
-  pub room-moved : (p : ℕ) → room racks places p + bit (eqb (rackOf racks (m .0)) p) ≡ room racks (movedPlaces m places) p + bit (lands racks p m)
-  unfolding lands
-  room-moved p = elim (ℕ-discrete (rackOf racks (m .0)) p) [
-    | yes e ↦ rw (← e) (omega (arith, room-from, ap bit (eq-eqb (rackOf racks (m .0)) (rackOf racks (m .0)) refl), ap bit (ne-eqb (rackOf racks (m .1)) (rackOf racks (m .0)) (λ q. ends-differ (sym q)))))
-    | no d ↦ elim (ℕ-discrete (rackOf racks (m .1)) p) [
-      | yes e ↦ rw (← e) (omega (arith, room-to, ap bit (eq-eqb (rackOf racks (m .1)) (rackOf racks (m .1)) refl), ap bit (ne-eqb (rackOf racks (m .0)) (rackOf racks (m .1)) ends-differ)))
-      | no f ↦ omega (arith, room-else p d f, ap bit (ne-eqb (rackOf racks (m .0)) p d), ap bit (ne-eqb (rackOf racks (m .1)) p f))
-    ]
-  ]
 
 -- a move noted in the line changes the room of its source's rack alone
 module _ (racking : List ℕ) (m : Pair) (line : List ℕ) (few : getD racking (m .0) 0 < 64) where

@@ -27,7 +27,7 @@ use Rattle.queues.proofs.Ready.{ready-plan}
 use Rattle.moves.specs.Moves.{carriedPlaces, carriedCards, Held, carried}
 use Rattle.moves.specs.Phases.{budget}
 use Rattle.moves.specs.Turns.{InTurn}
-use Rattle.moves.proofs.Carry.{in-turn-take, legal-carried, aways-carried, length-carried-cards, carried-append}
+use Rattle.moves.proofs.Carry.{in-turn-take, legal-in-turn, aways-carried, length-carried-cards, carried-append}
 use Rattle.moves.proofs.Phases.{aways-none, budget-none, budget-step}
 use Rattle.moves.proofs.FirstFit.{first-fit}
 use Rattle.budgets.specs.parts.Engine.{Runnable, PhaseRun, Going, Made}
@@ -136,7 +136,7 @@ module _ {racks : List Rack} {b k : ℕ} {h₀ : Held} {t : Tally} {h : Held} {l
         turn-next =
             record {
               within = omega (arith, moves-are, made-long);
-              legal = rw held-is (legal-carried (s .legal) in-turn);
+              legal = rw held-is (legal-in-turn (s .legal) in-turn);
               cards-long = rw held-is (length-carried-cards b made (h .cards) ∙ s .cards-long);
               line-long = ap length (r .noted-are .line-is) ∙ noted-long racking (f .filled) (f .few) (r .line₁) (s .legal) in-turn-all (r .planned .long);
               room = rw (r .planned .written .list, length-sets) (s .room);

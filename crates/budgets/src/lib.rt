@@ -1,7 +1,5 @@
 // Budgeted moves.
-ghost use mathlib.Core.Path.{_≡_};
-ghost use Rattle.racks.specs.Racks.{ofCaps};
-ghost use Rattle.moves.specs.Phases.{budgeted};
+ghost use Rattle.moves.specs.Phases.{BudgetedMoves};
 ghost use Rattle.moves.specs.Moves.{held, outcomeOf};
 use answers::Answer;
 use racks::Job;
@@ -16,7 +14,7 @@ pub fn budgeted_moves(
     cards: &mut [u8],
     k: usize,
 ) -> Answer
-    ensures { λ r. ⌜ outcomeOf r (now (places .exit)) (now (cards .exit)) ≡ budgeted (ofCaps (now (caps .entry))) b (held (now (places .entry)) (now (cards .entry))) k ⌝ }
+    ensures { λ r. ⌜ BudgetedMoves (now (caps .entry)) b (held (now (places .entry)) (now (cards .entry))) k (outcomeOf r (now (places .exit)) (now (cards .exit))) ⌝ }
 {
     let job = Job::of(caps);
     parts::budget_job(job, b, places, cards, k)

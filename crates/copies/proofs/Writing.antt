@@ -2,31 +2,20 @@
 use mathlib.Core.Path.{_≡_, refl, sym, ap, _∙_}
 use mathlib.Core.Logic.{_≢_}
 use mathlib.Core.List.{List, [], _∷_, _++_}
-use Prim.Native.Nat.{ℕ, zero, suc, _+_, _-_, _*_, _≤_, _<_}
+use Prim.Native.Nat.{ℕ, zero, suc, _+_, _-_, _*_}
 use native.Mathlib.Omega.{arith}
 use native.Mathlib.Numerals.{add-one}
-use lib.ListN.{length, getD, take, drop, set}
-use lib.Seq.{sets, sets-eq, length-sets, take-at}
+use lib.ListN.{length, getD, set}
+use lib.Seq.{length-sets}
 use borrow.Author.Tests.{eq-eqb, ne-eqb}
 use Rattle.counting.specs.Lists.{Pair, flat}
 use Rattle.racks.specs.Limits.{FREE, HAND}
 use Rattle.factors.specs.Copies.{next, shift}
 use Rattle.factors.specs.parts.Walks.{steps, Inside, walked, walkCount}
 use Rattle.copies.specs.parts.Writes.{putCopies}
-use Rattle.counting.proofs.Stores.{length-flat, flat-append, sets-append, sets-take}
+use Rattle.counting.proofs.Stores.{length-flat, flat-append, sets-append}
 use Rattle.factors.proofs.Costs.{length-shift}
 use Rattle.factors.proofs.Walked.{length-steps, inside-step, walked-shift, walked-hand}
-
--- one more of the numbers to be stored
-pub sets-more : (src l now : List ℕ) (t i v : ℕ) → i < length src → v ≡ getD src i 0 → now ≡ sets l t (take i src) → set now (t + i) v ≡ sets l t (take (i + 1) src)
-sets-more src l now t i v h e p =
-    rw (p, e) (sym (sets-take src l t i h))
-
--- numbers stored at the front
-pub take-front : (l vs : List ℕ) (n : ℕ) → length vs ≡ n → n ≤ length l → take n (sets l 0 vs) ≡ vs
-take-front l vs n e h =
-    let r : 0 + length vs ≤ length l = omega arith in
-    ap (take n) (sets-eq vs l 0 r) ∙ take-at vs (drop (0 + length vs) l) n e
 
 module _ (list : List ℕ) (at : ℕ) where
   -- copies keep the length of the list

@@ -1,12 +1,12 @@
 -- Laws of `flat` and `sets`: pairs laid flat, and a list stored in a list. Assumes nothing.
-use mathlib.Core.Path.{_≡_, refl, _∙_}
+use mathlib.Core.Path.{_≡_, refl, ap, _∙_}
 use mathlib.Core.List.{List, [], _∷_, _++_, append-assoc}
 use Prim.Native.Nat.{ℕ, suc, _+_, _*_, _≤_, _<_}
 use native.Mathlib.Omega.{arith}
 use native.Mathlib.Nat.{add-zero, add-suc, suc-add}
 use native.Mathlib.Numerals.{add-one, add-two}
 use lib.ListN.{length, take, drop, getD, set}
-use lib.Seq.{sets, sets-eq, getD-set-other, take-suc, take-append-le, drop-at, length-take-le}
+use lib.Seq.{sets, sets-eq, getD-set-other, take-suc, take-append-le, drop-at, take-at, length-take-le}
 use Rattle.counting.specs.Lists.{Pair, flat}
 
 -- two numbers for each pair
@@ -58,3 +58,9 @@ pub run-same : (xs l : List ℕ) (i n : ℕ) → i + length xs ≤ length l → 
 run-same xs l i n fits h =
     rw (sets-eq xs l i fits, append-assoc, drop-at (take i l) (xs ++ drop (i + length xs) l) i (length-take-le i l (omega arith)))
     (take-append-le n xs (drop (i + length xs) l) h)
+
+-- numbers stored at the front
+pub take-front : (l vs : List ℕ) (n : ℕ) → length vs ≡ n → n ≤ length l → take n (sets l 0 vs) ≡ vs
+take-front l vs n e h =
+    let r : 0 + length vs ≤ length l = omega arith in
+    ap (take n) (sets-eq vs l 0 r) ∙ take-at vs (drop (0 + length vs) l) n e

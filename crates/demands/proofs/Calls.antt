@@ -17,8 +17,8 @@ use Rattle.racks.specs.Numbers.{cardChecks}
 use Rattle.racks.specs.parts.Legal.{Legal, Spared}
 use Rattle.moves.specs.Moves.{Held, carriedPlaces, carriedCards, carried, endChecks, moveChecks, moved}
 use Rattle.moves.specs.Phases.{budgeted}
-use Rattle.moves.specs.Turns.{InTurn}
-use Rattle.moves.proofs.Carry.{in-turn-append, legal-carried, length-carried-cards, carried-append}
+use Rattle.moves.specs.Turns.{InTurn, Moving}
+use Rattle.moves.proofs.Carry.{in-turn-append, in-turn-moving, legal-carried, length-carried-cards, carried-append}
 use Rattle.moves.specs.Turns.InTurn.{stop, next}
 use Rattle.moves.proofs.Ends.{ends-allowed}
 use Rattle.tables.proofs.Tables.{cards-marked}
@@ -42,15 +42,19 @@ module _ {racks : List Rack} {b : ℕ} {h : Held} (s : Start racks b h) where
   pub start-long : length (h .cards) ≡ slots racks * b
   start-long = accepted-long racks b (h .places) (h .cards) (s .fits)
 
-  -- moves that are allowed in turn lead to another such table
-  pub start-carried : {ms : List Pair} → InTurn racks (h .places) ms → Start racks b (carried b ms h)
-  start-carried {ms} t =
+  -- moves to free slots lead to another such table
+  pub start-moving : {ms : List Pair} → Moving racks (h .places) ms → Start racks b (carried b ms h)
+  start-moving {ms} t =
       record {
         spared = s .spared;
         fits =
             accepted-again racks b (h .places) (h .cards) (s .fits) (carriedPlaces ms (h .places)) (carriedCards b ms (h .cards)) (legal-carried start-legal t)
             (length-carried-cards b ms (h .cards));
       }
+
+  -- so do moves that are allowed in turn
+  pub start-carried : {ms : List Pair} → InTurn racks (h .places) ms → Start racks b (carried b ms h)
+  start-carried t = start-moving (in-turn-moving t)
 
   -- a single move's number is that of its ends, 7 to 11
   pub move-number : (m : Pair) → first (moveChecks racks b h m) ≡ first (endChecks racks (h .places) m)
@@ -124,6 +128,10 @@ calls-done {racks} {b} {h} (call ∷ calls) s =
           rest .held-is ∙ ap (carried b (made racks b calls h′)) (one .held-is) ∙ sym (carried-append b (makes racks b h call) (made racks b calls h′) h);
       counts = omega (arith, one .counts, rest .counts, length-append (makes racks b h call) (made racks b calls h′));
     }
+
+-- after all calls the table is accepted
+pub start-after : {racks : List Rack} {b : ℕ} {h : Held} (calls : List Call) → Start racks b h → Start racks b (after racks b calls h)
+start-after calls s = let all = calls-done calls s in subst (Start _ _) (sym (all .held-is)) (start-carried s (all .in-turn))
 
 -- the moves of calls and further calls
 pub made-append : (racks : List Rack) (b : ℕ) (h : Held) (former later : List Call)

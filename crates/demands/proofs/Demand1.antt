@@ -1,41 +1,52 @@
 -- Demand 1 holds. Assumes nothing.
-use mathlib.Core.Path.{_≡_, sym, ap, subst}
-use mathlib.Core.Logic.{_≢_, _↔_}
+use mathlib.Core.Path.{_≡_, refl, sym, ap, subst, _∙_}
+use mathlib.Core.Logic.{_≢_, _↔_, inl, inr}
 use mathlib.Core.List.{List, [], _∷_}
 use Prim.Native.Nat.{ℕ, suc, _≤_, _<_}
 use native.Mathlib.Omega.{arith}
-use lib.ListN.{length, drop, drop-of-length-le}
+use native.Mathlib.Decide.{ℕ-discrete}
+use lib.ListN.{length, getD, take, drop, drop-of-length-le}
 use denote.Ref.{now}
 use borrow.Author.Tests.{ne-eqb}
+use Rattle.counting.specs.Lists.{Pair}
 use Rattle.counting.specs.Checks.{first}
+use Rattle.counting.proofs.Stores.{take-front}
 use Rattle.racks.specs.Racks.{Rack, base, slots, rackOf}
 use Rattle.racks.proofs.Caps.{length-caps, users-caps, slots-caps}
 use Rattle.racks.proofs.Geometry.{rack-lt, rack-in, rack-is}
 use Rattle.tables.specs.Check.{checked}
 use Rattle.slots.specs.Slots.{slotChecks, asked}
 use Rattle.plans.specs.Plan.{planChecks, planned}
-use Rattle.moves.specs.Moves.{moveChecks, moved}
-use Rattle.moves.specs.Phases.{budgeted}
+use Rattle.moves.specs.Moves.{Held, held, moveChecks, moved}
+use Rattle.moves.specs.Phases.{phases, budgeted}
 use Rattle.factors.specs.Copies.{copyChecks, copied}
 use Rattle.shuffle.specs.Shuffle.{shuffleChecks, shuffled}
 use Rattle.runs.specs.Run.{ran}
 use Rattle.answers.specs.declared.Answer.{Answer}
 use Rattle.jobfile.specs.Numeral.{numeral, groups, numerals}
-use Rattle.jobfile.specs.File.{readN, fileRacks, fileBytes, fileChecks, readChecks, read}
+use Rattle.jobfile.specs.File.{readN, readM, fileRacks, fileBytes, filePlaces, fileCards, fileChecks, readChecks, read}
+use Rattle.jobfile.proofs.Legal.{file-legal}
 use Rattle.jobreader.specs.Reading.{ahead, JobRead}
 use Rattle.jobreader.specs.declared.Reader.{Reader}
 use Rattle.jobreader.specs.declared.JobFile.{JobFile}
-use Rattle.texts.specs.Lines.{refusedLine}
+use Rattle.texts.specs.Lines.{refusedLine, phaseLine, phaseLines, copiesLine}
+use Rattle.texts.proofs.Spelling.{refused-one}
 use Rattle.runtexts.specs.RunText.{runText}
 use Rattle.listing.specs.Listing.{fileHeld, programChecks, listing, handedOver, printed}
+use Rattle.demands.specs.Accepted.{Accepted}
 use Rattle.demands.specs.Rows.{None, Holds, Given, _then_}
 use Rattle.demands.specs.FileConditions.{fileRows, NoRoom, FileTooLarge}
 use Rattle.demands.specs.Demand1.{Demand1}
-use Rattle.demands.proofs.Rows.{given-none, given-row, holds-some}
+use Rattle.demands.proofs.Acceptance.{accepted-legal}
+use Rattle.demands.proofs.Rows.{given-none, given-row, holds-some, none-left, none-right}
 use Rattle.demands.proofs.Says.{says-or, says-lt, says-user, says-7, says-12, says-13}
 use Rattle.demands.proofs.CallRows.{given-table, given-cards, given-table-only, given-cards-only, given-ends}
 use Rattle.demands.proofs.Forms.{given-form, numeral-ends, numeral-good}
 use Rattle.demands.proofs.FileRows.{given-file, given-file-only}
+
+-- a number that is not below another is as large
+not-below : {m n : ℕ} → ¬ (m < n) → n ≤ m
+not-below f = omega arith
 
 -- the rack of a slot
 rack-of : (racks : List Rack) (g p : ℕ) → g < slots racks → (rackOf racks g ≡ p) ↔ ((p < length racks) × (base racks p ≤ g) × (g < base racks (suc p)))
@@ -44,18 +55,38 @@ rack-of racks g p l = (
   λ r. rack-is racks p g (r .0) (r .1) (r .2),
 )
 
+-- the text of a run begins with a phase or with the copies, and not as a refusal does
+run-starts : (racks : List Rack) (b : ℕ) (h : Held) (plans : List (List Pair)) → phases racks (h .places) ≡ plans → getD (runText racks b h) 0 0 ≢ 114
+unfolding runText phaseLines phaseLine copiesLine
+run-starts racks b h [] e q = omega (arith, rw e at q)
+run-starts racks b h (p ∷ plans) e q = omega (arith, rw e at q)
+
+no-refusal : (racks : List Rack) (b : ℕ) (h : Held) (n : ℕ) → runText racks b h ≢ refusedLine n
+unfolding refusedLine
+no-refusal racks b h n e = run-starts racks b h _ refl (ap (λ (l : List ℕ). getD l 0 0) e)
+
 -- the program's number
 module _ (file : List ℕ) where
   given-program : Given (first (programChecks file)) ((18, FileTooLarge file) ∷ fileRows file)
   unfolding programChecks
   given-program = given-row _ (λ e. omega arith) (says-lt 32768 (length file)) (given-file-only file)
 
-  refuses : (n : ℕ) → Holds n ((18, FileTooLarge file) ∷ fileRows file) → listing file ≡ refusedLine n
+  -- a refusal's line stands there exactly when the number is n
+  line-is : (k : ℕ) → first (programChecks file) ≡ k → k ≢ 0 → listing file ≡ refusedLine k
   unfolding listing
-  refuses n h =
-      let f : n ≢ 0 = holds-some n _ (given-program .numbered) h in
-      let e : first (programChecks file) ≡ n = given-program .refused n f .1 h in
-      rw (e, ne-eqb n 0 f)
+  line-is k e f = rw (e, ne-eqb k 0 f)
+
+  refuses : (n : ℕ) → (listing file ≡ refusedLine n) ↔ Holds n ((18, FileTooLarge file) ∷ fileRows file)
+  unfolding listing
+  refuses n = (
+    λ e. elim (ℕ-discrete (first (programChecks file)) 0) [
+      | yes z ↦ absurd (no-refusal (fileRacks file) (fileBytes file) (fileHeld file) n (sym (rw z) ∙ e))
+      | no f ↦
+          let q : first (programChecks file) ≡ n = refused-one _ n (sym (line-is _ refl f) ∙ e) in
+          given-program .refused n (λ z. f (q ∙ z)) .0 q
+    ],
+    λ h. let f : n ≢ 0 = holds-some n _ (given-program .numbered) h in line-is n (given-program .refused n f .1 h) f,
+  )
 
   runs : None ((18, FileTooLarge file) ∷ fileRows file) → listing file ≡ runText (fileRacks file) (fileBytes file) (fileHeld file)
   unfolding listing
@@ -66,6 +97,22 @@ given-read : (file caps places : List ℕ) → Given (read file caps places .ans
 unfolding read readChecks
 given-read file caps places =
     given-file file _ _ (given-row _ (λ e. omega arith) (says-or (says-lt (length caps) _) (says-lt (length places) _)) given-none)
+
+-- what is read without refusal is accepted
+accepted-read : (file caps places : List ℕ) → read file caps places .answer .number ≡ 0
+    → let r = read file caps places in Accepted (take (r .racks) (r .caps)) (r .bytes) (held (take (r .slots) (r .places)) (r .cards))
+unfolding read fileRacks None
+accepted-read file caps places z =
+    let none = given-read file caps places .done .0 z in
+    let room = none-right _ (fileRows file) none .0 in
+    let fits : first (fileChecks file) ≡ 0 = given-file-only file .done .1 (none-left _ (fileRows file) none) in
+    let a = file-legal file fits in
+    let long = accepted-legal (fileRacks file) (fileBytes file) (filePlaces file) (fileCards file) a .long in
+    rw (
+      z,
+      take-front caps (readM file .values) (length (fileRacks file)) (sym (length-caps (readM file .values))) (not-below (λ l. room (inl l))),
+      take-front places (filePlaces file) (slots (fileRacks file)) long (not-below (λ l. room (inr l))),
+    ) a
 
 -- and that of a job read from a reader's place on
 given-job : (reader : Reader) (caps places : List ℕ) (job : JobFile) (caps′ places′ : List ℕ) → JobRead reader caps places job caps′ places′
@@ -100,7 +147,9 @@ demand1 =
       ends = numeral-ends;
       value = numeral-good;
       shelve-refuses = refuses;
+      run-no-refusal = no-refusal;
       shelve-runs = runs;
+      read-accepted = accepted-read;
       capacities = λ caps. (length-caps caps, slots-caps caps);
       users-lent = users-caps;
       rack = rack-of;

@@ -17,7 +17,8 @@ use Rattle.demands.specs.Demand2.{Shuffle, Demand2}
 use Rattle.demands.proofs.Acceptance.{accepted-small}
 use Rattle.demands.proofs.Calls.{Start}
 use Rattle.demands.proofs.Phases.{plan-phase, phase-is, phase-away}
-use Rattle.demands.proofs.Homes.{shuffle-done, start-gathered, gathered-none, ran-number, run-home, ran-phases, ran-moves, ran-copies, ran-shuffled, budgeted-first, budgeted-gathered}
+use Rattle.demands.proofs.Figure1Run.{figure1-run}
+use Rattle.demands.proofs.Runs.{shuffle-done, start-gathered, gathered-none, ran-number, ran-home, ran-phases, ran-moves, ran-copies, ran-shuffled, budgeted-first, budgeted-gathered}
 
 -- the table and the cards after all phases
 after-all : (racks : List Rack) (b : ℕ) (h : Held) → carried b (join (take (length (phases racks (h .places))) (phases racks (h .places)))) h ≡ gathered racks b h
@@ -27,16 +28,18 @@ after-all racks b h = ap (λ (ps : List (List Pair)). carried b (join ps) h) (ta
 from-start : {racks : List Rack} {b : ℕ} {h : Held} → Start racks b h → slots racks ≤ 4096 → Demand2 racks b h
 from-start {racks} {b} {h} s small =
     let last = after-all racks b h in
+    let none = ap (λ (x : Held). aways racks (x .places)) last ∙ gathered-none s small in
     record {
       plan-now = plan-phase s;
       shuffle-now = λ z. shuffle-done s small z;
       phase = λ n l. phase-is s n l;
       goes-on = λ n l. phase-away s n l;
-      over = ap (λ (x : Held). aways racks (x .places)) last ∙ gathered-none s small;
+      over = none;
+      figure1-run = figure1-run s none;
       shuffle = subst (Shuffle racks b) (sym last) (shuffle-done (start-gathered s small) small (gathered-none s small));
       then-shuffle = ran-shuffled s small _ last;
       done = ran-number s small;
-      home = run-home s small;
+      home = ran-home s small;
       phase-count = ran-phases s small;
       move-count = ran-moves s small;
       copy-count = ran-copies s small ∙ ap (λ (x : Held). length (copyList (x .places))) (sym last);

@@ -1,5 +1,5 @@
 -- Demand 3, proved: the moves of any list of calls are each allowed when their turn comes, and such moves keep all that is asked. Assumes nothing.
-use mathlib.Core.Path.{_≡_, refl, ap, sym, subst, _∙_}
+use mathlib.Core.Path.{_≡_, refl, ap, sym, _∙_}
 use mathlib.Core.List.{List, _++_}
 use Prim.Native.Nat.{ℕ}
 use native.Mathlib.Omega.{arith}
@@ -9,13 +9,13 @@ use Rattle.counting.specs.Lists.{Pair}
 use Rattle.racks.specs.Racks.{Rack, ofCaps}
 use Rattle.racks.proofs.LegalTable.{spared-caps}
 use Rattle.moves.specs.Moves.{Held, carried}
-use Rattle.moves.proofs.Carry.{in-turn-take, stands-carried, owes-carried}
+use Rattle.moves.proofs.Carry.{in-turn-take, in-turn-moving, stands-carried, owes-carried}
 use Rattle.runs.proofs.Owing.{awaits-owes}
 use Rattle.demands.specs.Accepted.{Accepted}
 use Rattle.demands.specs.Calls.{Call, after, made}
 use Rattle.demands.specs.Demand3.{Demand3, point}
-use Rattle.demands.proofs.Calls.{Start, start-legal, start-carried, calls-done, made-append, budget-done, single-done, refused-none, refused-same}
-use Rattle.demands.proofs.Points.{names-once, turn-at, some-accepted, start-point, point-move, point-away, point-falls, point-bytes}
+use Rattle.demands.proofs.Calls.{Start, start-legal, calls-done, start-after, made-append, budget-done, single-done, refused-none, refused-same}
+use Rattle.demands.proofs.Points.{names-once, turn-at, some-accepted, start-point, point-number, point-move, point-away, point-falls, point-bytes}
 
 -- between two calls the table and the cards are as after the moves of the former
 between : {racks : List Rack} {b : ℕ} {h : Held} (s : Start racks b h) (calls former later : List Call) → calls ≡ former ++ later
@@ -36,7 +36,9 @@ from-start {racks} {b} {h} calls s =
       between-calls = between s calls;
       end-is = all .held-is ∙ ap (λ (ms : List Pair). carried b ms h) (sym (take-length (made racks b calls h)));
       each-move = λ n m. point-move s t n m;
-      same-cards = λ n d f. sym (stands-carried l (in-turn-take n t) d f);
+      accepted = λ n. start-point s t n .fits;
+      only-ends = λ n from to. point-number s t n (from, to);
+      same-cards = λ n d f. sym (stands-carried l (in-turn-moving (in-turn-take n t)) d f);
       once = λ d f. names-once l d f;
       same-bytes = λ n. point-bytes s t n;
       owed = λ n i p. omega (arith, owes-carried l (in-turn-take n t) i p);
@@ -46,14 +48,11 @@ from-start {racks} {b} {h} calls s =
       brings = λ n m g. point-away s t n m g;
       falls = λ n m. point-falls s t n m;
       counts = all .counts;
-      budget-makes = λ k. budget-done k (end s);
+      budget-makes = λ k. budget-done k (start-after calls s);
       single-makes = λ from to. single-done racks b (after racks b calls h) from to;
       refused-makes = λ call f. refused-none racks b (after racks b calls h) call f;
       refused-keeps = λ call f. refused-same racks b (after racks b calls h) call f;
     }
-  where
-    end : Start racks b h → Start racks b (after racks b calls h)
-    end s = let all = calls-done calls s in subst (Start racks b) (sym (all .held-is)) (start-carried s (all .in-turn))
 
 -- **Demand 3.** Every accepted start, and every list of calls
 pub demand3 : (caps : List ℕ) (b : ℕ) (h : Held) → Accepted caps b h → (calls : List Call) → Demand3 (ofCaps caps) b h calls

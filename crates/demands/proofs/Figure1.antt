@@ -13,7 +13,8 @@ use Rattle.racks.specs.Racks.{Rack, slots}
 use Rattle.racks.specs.Table.{bound, owes}
 use Rattle.plans.specs.Plan.{room, arrivals, planFor, plan}
 use Rattle.plans.proofs.Grants.{cardsFor, own-owes, racks-all, arrivals-are, plan-for-is}
-use Rattle.demands.specs.Figure1.{r, recv, dueTo, received, figure1For, figure1, bySlotFor, bySlot}
+use Rattle.demands.specs.Figure1Loop.{left, recv}
+use Rattle.demands.specs.Figure1.{dueTo, received, figure1For, figure1, bySlotFor, bySlot}
 
 -- a list of length 0
 empty : {A : Type 0} (l : List A) → length l ≡ 0 → l ≡ []
@@ -31,18 +32,18 @@ module _ {A : Type 0} (free : ℕ) (f : ℕ → List A) where
   due : ℕ → ℕ
   due i = length (f i)
 
-  -- r is what is left of free behind those before
-  left : (n : ℕ) → r free due n ≡ free - length (join (tabulate n f))
-  unfolding r due
-  left zero = unfold tabulate join in omega arith
-  left (suc n) = omega (arith, left n, ap length (join-more n f), length-append (join (tabulate n f)) (f n))
+  -- what is left of free behind those before
+  left-is : (n : ℕ) → left free due n ≡ free - length (join (tabulate n f))
+  unfolding left due
+  left-is zero = unfold tabulate join in omega arith
+  left-is (suc n) = omega (arith, left-is n, ap length (join-more n f), length-append (join (tabulate n f)) (f n))
 
   pub loop-takes : (n : ℕ) → join (tabulate n (λ i. take (recv free (λ i. length (f i)) i) (f i))) ≡ take free (join (tabulate n f))
   unfolding recv due
   loop-takes zero = unfold tabulate join in sym (take-nil {A = A} free)
   loop-takes (suc n) =
       join-more n (λ i. take (recv free (λ i. length (f i)) i) (f i))
-      ∙ rw (loop-takes n, take-min (r free (λ i. length (f i)) n) (f n), left n, join-more n f)
+      ∙ rw (loop-takes n, take-min (left free (λ i. length (f i)) n) (f n), left-is n, join-more n f)
       (sym (take-append free (join (tabulate n f)) (f n)))
 
 module _ (racks : List Rack) (places : List ℕ) where

@@ -144,10 +144,11 @@ one-job reader caps places (x, c, p) (y, d, q) a b =
     let e1 = a .racks-are ∙ sym (b .racks-are) in
     let e2 = a .bytes-are ∙ sym (b .bytes-are) in
     let e3 = a .slots-are ∙ sym (b .slots-are) in
-    let e4 = a .cards-are ∙ sym (b .cards-are) in
-    let e5 = a .caps-are ∙ sym (b .caps-are) in
-    let e6 = a .places-are ∙ sym (b .places-are) in
-    λ i. (e0 i, e1 i, e2 i, e3 i, e4 i, e5 i, e6 i)
+    let e4 = a .place-is ∙ sym (b .place-is) in
+    let e5 = a .cards-are ∙ sym (b .cards-are) in
+    let e6 = a .caps-are ∙ sym (b .caps-are) in
+    let e7 = a .places-are ∙ sym (b .places-are) in
+    λ i. (e0 i, e1 i, e2 i, e3 i, e4 i, e5 i, e6 i, e7 i)
 
 pub one-outcome : OneOutcome
 one-outcome =

@@ -1,7 +1,7 @@
 -- The phases of a run, one by one: each carries the plan of the table that it finds, until nothing is away. Assumes nothing.
 use mathlib.Core.Path.{_≡_, refl, ap, sym, subst, _∙_}
 use mathlib.Core.Bool.{true}
-use mathlib.Core.List.{List, [], _∷_, _++_}
+use mathlib.Core.List.{List, [], _∷_, _++_, List·Permᴰ}
 use Prim.Native.Nat.{ℕ, zero, suc, _<_}
 use native.Mathlib.Omega.{arith}
 use lib.ListN.{length, getD, take, drop, take-append-drop}
@@ -23,10 +23,12 @@ use Rattle.moves.specs.Turns.InTurn.{stop, next}
 use Rattle.moves.proofs.Phases.{Run, phases-run, phases-in-turn, aways-some}
 use Rattle.moves.proofs.Phases.Run.{over, phase}
 use Rattle.moves.proofs.FirstFit.{first-fit}
-use Rattle.moves.proofs.Order.{disjoint-pairs, any-order}
+use Rattle.moves.proofs.Order.{disjoint-pairs, any-order, perm-in-turn}
+use Rattle.demands.specs.Calls.{after, singles, AllAccepted}
 use Rattle.demands.specs.Demand2.{Phase}
 use Rattle.demands.proofs.Calls.{Start, start-legal, start-long, start-carried}
 use Rattle.demands.proofs.Points.{allowed-number}
+use Rattle.demands.proofs.Singles.{singles-done}
 use Rattle.demands.proofs.Figure1.{plan-figure1, plan-by-slot}
 use Rattle.demands.proofs.Sends.{plan-sends}
 
@@ -59,6 +61,14 @@ module _ {racks : List Rack} {b : ℕ} {h : Held} (s : Start racks b h) where
   in-turn : InTurn racks (h .places) (plan racks (h .places))
   in-turn = pairs-in-turn (start-legal s) (plan-apart racks (h .places)) (plan-allowed racks (h .places))
 
+  -- its pairs in any order, as the table and the cards that they leave, and as single-move calls
+  same-left : (ms : List Pair) → List·Permᴰ (plan racks (h .places)) ms → carried b ms h ≡ carried b (plan racks (h .places)) h
+  same-left ms p =
+      sym (any-order (record { places-long = start-legal s .long; cards-long = start-long s }) (plan-apart racks (h .places)) (plan-allowed racks (h .places)) p)
+
+  in-any-order : (ms : List Pair) → List·Permᴰ (plan racks (h .places)) ms → AllAccepted racks b h ms × (after racks b (singles ms) h ≡ carried b ms h)
+  in-any-order ms p = singles-done s (perm-in-turn (start-legal s) (plan-apart racks (h .places)) (plan-allowed racks (h .places)) p)
+
   -- the plan of a table, asked for or carried
   pub plan-phase : Phase racks b h (plan racks (h .places))
   unfolding moved aways
@@ -72,20 +82,24 @@ module _ {racks : List Rack} {b : ℕ} {h : Held} (s : Start racks b h) where
         accepted = all-map (λ m a. allowed-number s m a) (plan-allowed racks (h .places));
         disjoint = disjoint-pairs (plan-apart racks (h .places)) (plan-allowed racks (h .places));
         some = λ k. let (g, l, e) = count-some (slots racks) (away racks (h .places)) k in plan-some racks (h .places) (start-legal s) (s .spared) g l e;
-        any-order = λ ms p.
-            sym (any-order (record { places-long = start-legal s .long; cards-long = start-long s }) (plan-apart racks (h .places)) (plan-allowed racks (h .places)) p);
+        any-order = same-left;
+        any-calls = λ ms p. in-any-order ms p .0;
+        calls-leave = λ ms p. in-any-order ms p .1 ∙ same-left ms p;
       }
 
   run : Run racks (h .places) (phases racks (h .places))
   run = phases-run (first-fit (s .spared)) (start-legal s)
 
+  -- the moves before phase n, each allowed when its turn comes
+  pub before-in-turn : (n : ℕ) → InTurn racks (h .places) (join (take n (phases racks (h .places))))
+  before-in-turn n =
+      let all : List (List Pair) = phases racks (h .places) in
+      in-turn-front (join (take n all)) (join (drop n all))
+      (subst (InTurn racks (h .places)) (sym (join-split n all)) (phases-in-turn (first-fit (s .spared)) (start-legal s)))
+
   -- a phase begins with an accepted table
   pub phase-start : (n : ℕ) → Start racks b (carried b (join (take n (phases racks (h .places)))) h)
-  phase-start n =
-      let all : List (List Pair) = phases racks (h .places) in
-      start-carried s
-      (in-turn-front (join (take n all)) (join (drop n all))
-      (subst (InTurn racks (h .places)) (sym (join-split n all)) (phases-in-turn (first-fit (s .spared)) (start-legal s))))
+  phase-start n = start-carried s (before-in-turn n)
 
   -- with a card away
   pub phase-away : (n : ℕ) → n < length (phases racks (h .places)) → 0 < aways racks (carriedPlaces (join (take n (phases racks (h .places)))) (h .places))
@@ -97,3 +111,8 @@ module _ {racks : List Rack} {b : ℕ} {h : Held} (s : Start racks b h) where
       → Phase racks b (carried b (join (take n (phases racks (h .places)))) h) (getD (phases racks (h .places)) n [])
   phase-is n l =
       subst (Phase racks b (carried b (join (take n (phases racks (h .places)))) h)) (sym (run-plan (run s) n l)) (plan-phase (phase-start s n))
+
+  -- each allowed when its turn comes
+  pub phase-in-turn : (n : ℕ) → n < length (phases racks (h .places))
+      → InTurn racks (carriedPlaces (join (take n (phases racks (h .places)))) (h .places)) (getD (phases racks (h .places)) n [])
+  phase-in-turn n l = subst (InTurn racks _) (sym (run-plan (run s) n l)) (in-turn (phase-start s n))

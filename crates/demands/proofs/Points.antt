@@ -27,10 +27,10 @@ use Rattle.racks.proofs.Away.{to-away, to-is}
 use Rattle.plans.specs.Allowed.{Allowed}
 use Rattle.plans.proofs.Possible.{possible}
 use Rattle.moves.specs.Blocks.{block}
-use Rattle.moves.specs.Moves.{Held, movedPlaces, carriedPlaces, carriedCards, carried, moveChecks, moved}
+use Rattle.moves.specs.Moves.{Held, movedPlaces, carriedPlaces, carriedCards, carried, endChecks, moveChecks, moved}
 use Rattle.moves.proofs.Moved.{to-moved}
 use Rattle.moves.specs.Turns.{InTurn}
-use Rattle.moves.proofs.Carry.{in-turn-take, aways-carried, carried-append}
+use Rattle.moves.proofs.Carry.{in-turn-take, in-turn-moving, aways-carried, carried-append}
 use Rattle.moves.specs.Turns.InTurn.{stop, next}
 use Rattle.moves.proofs.Ends.{allowed-ends}
 use Rattle.moves.proofs.Kept.{card-carried}
@@ -103,6 +103,11 @@ module _ {racks : List Rack} {b : ℕ} {h : Held} {ms : List Pair} (s : Start ra
   pub start-point : Start racks b (carried b (take n ms) h)
   start-point = start-carried s (in-turn-take n t)
 
+  -- a single move's number there is that of its ends
+  pub point-number : (m : Pair) → moved racks b (carried b (take n ms) h) m .answer .number ≡ first (endChecks racks (carried b (take n ms) h .places) m)
+  unfolding moved
+  point-number m = move-number start-point m
+
   -- one move more
   pub point-suc : n < length ms → carried b (take (suc n) ms) h ≡ carried b (getD ms n (0, 0) ∷ []) (carried b (take n ms) h)
   point-suc l = ap (λ (x : List Pair). carried b x h) (take-suc ms n (0, 0) l) ∙ carried-append b (take n ms) (getD ms n (0, 0) ∷ []) h
@@ -126,6 +131,6 @@ module _ {racks : List Rack} {b : ℕ} {h : Held} {ms : List Pair} (s : Start ra
   unfolding free
   point-bytes g k m l f e =
       let u : dest (h .places) g ≢ FREE = λ q. no-way (eq-eqb (dest (h .places) g) FREE q) f in
-      let c = card-carried u (start-legal s) (start-long s) (in-turn-take n t) (record { at = g; at-lt = m; bound-for = refl; bytes-are = refl }) in
+      let c = card-carried u (start-legal s) (start-long s) (in-turn-moving (in-turn-take n t)) (record { at = g; at-lt = m; bound-for = refl; bytes-are = refl }) in
       let same : k ≡ c .at = start-legal start-point .once k (c .at) l (c .at-lt) (ne-eqb _ _ (λ q. u (sym e ∙ q))) (e ∙ sym (c .bound-for)) in
       ap (λ (x : ℕ). block b x (carriedCards b (take n ms) (h .cards))) same ∙ c .bytes-are

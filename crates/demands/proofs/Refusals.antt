@@ -1,8 +1,9 @@
 -- What each call leaves on a refusal. Assumes nothing.
-use mathlib.Core.Path.{_≡_, sym, ap, _∙_}
+use mathlib.Core.Path.{_≡_, refl, sym, ap, _∙_}
 use mathlib.Core.Logic.{_≢_}
 use mathlib.Core.List.{List, []}
 use Prim.Native.Nat.{ℕ}
+use denote.Ref.{now}
 use borrow.Author.Tests.{ne-eqb}
 use Rattle.tables.specs.Check.{checked}
 use Rattle.slots.specs.Slots.{asked}
@@ -14,8 +15,13 @@ use Rattle.shuffle.specs.Shuffle.{shuffled}
 use Rattle.runs.specs.Run.{ran}
 use Rattle.answers.specs.declared.Answer.{Answer}
 use Rattle.jobfile.specs.File.{Read, read}
-use Rattle.jobreader.specs.Reading.{ahead, JobRead}
+use Rattle.jobfile.specs.Numeral.{Got, numeral}
+use Rattle.jobfile.specs.Answers.{gotOf}
+use Rattle.jobfile.specs.declared.Numeral.{Numeral}
+use Rattle.jobfile.specs.declared.Numeral.the-variants.{Value, Refused}
+use Rattle.jobreader.specs.Reading.{placeAfter, Stepped, Next, ahead, JobRead}
 use Rattle.jobreader.specs.declared.Reader.{Reader}
+use Rattle.jobreader.specs.declared.Step.{Step}
 use Rattle.jobreader.specs.declared.JobFile.{JobFile}
 use Rattle.listing.specs.Listing.{handedOver, printed}
 use Rattle.demands.specs.OneOutcome.{jobSeen}
@@ -29,17 +35,35 @@ refused-read file caps places n f e = rw (e, ne-eqb n 0 f)
 
 -- and a job
 refused-job : (reader : Reader) (caps places : List ℕ) (job : JobFile) (caps′ places′ : List ℕ) (n : ℕ) → JobRead reader caps places job caps′ places′ → n ≢ 0
-    → job .answer .number ≡ n → jobSeen (job, caps′, places′) ≡ (refusedWith n, 0, 0, 0, [], caps, places)
+    → job .answer .number ≡ n → jobSeen (job, caps′, places′) ≡ (refusedWith n, 0, 0, 0, 0, [], caps, places)
 refused-job reader caps places job caps′ places′ n r f z =
     let e = refused-read (ahead reader) caps places n f (sym (ap (λ (a : Answer). a .number) (r .answer-is)) ∙ z) in
     let e0 = r .answer-is ∙ ap (λ (o : Read). o .answer) e in
     let e1 = r .racks-are ∙ ap (λ (o : Read). o .racks) e in
     let e2 = r .bytes-are ∙ ap (λ (o : Read). o .bytes) e in
     let e3 = r .slots-are ∙ ap (λ (o : Read). o .slots) e in
-    let e4 = r .cards-are ∙ ap (λ (o : Read). o .cards) e in
-    let e5 = r .caps-are ∙ ap (λ (o : Read). o .caps) e in
-    let e6 = r .places-are ∙ ap (λ (o : Read). o .places) e in
-    λ i. (e0 i, e1 i, e2 i, e3 i, e4 i, e5 i, e6 i)
+    let e4 = r .place-is ∙ ap (λ (o : Read). o .place) e in
+    let e5 = r .cards-are ∙ ap (λ (o : Read). o .cards) e in
+    let e6 = r .caps-are ∙ ap (λ (o : Read). o .caps) e in
+    let e7 = r .places-are ∙ ap (λ (o : Read). o .places) e in
+    λ i. (e0 i, e1 i, e2 i, e3 i, e4 i, e5 i, e6 i, e7 i)
+
+-- a numeral that is refused says so, and the place stays
+refused-numeral : (x : Numeral) (got : Got) (at n : ℕ) → gotOf x ≡ got → n ≢ 0 → got .number ≡ n → (x ≡ Refused n) × (placeAfter x at ≡ at)
+unfolding gotOf placeAfter
+refused-numeral (Value v p) got at n e f z = absurd (f (sym z ∙ sym (ap (λ (g : Got). g .number) e)))
+refused-numeral (Refused m) got at n e f z = (ap Refused (ap (λ (g : Got). g .number) e ∙ z), refl)
+
+refused-step : (file : List ℕ) (at n : ℕ) (step : Step) → Stepped file at step → n ≢ 0 → numeral file at .number ≡ n → (step .numeral ≡ Refused n) × (step .at ≡ at)
+refused-step file at n step s f z =
+    let r = refused-numeral (step .numeral) (numeral file at) at n (s .got-is) f z in
+    (r .0, s .at-is ∙ r .1)
+
+refused-next : (before after : Reader) (x : Numeral) (n : ℕ) → Next before x after → n ≢ 0 → numeral (now (before .file)) (before .at) .number ≡ n
+    → (x ≡ Refused n) × (after .file ≡ before .file) × (after .at ≡ before .at)
+refused-next before after x n s f z =
+    let r = refused-numeral x (numeral (now (before .file)) (before .at)) (before .at) n (s .got-is) f z in
+    (r .0, s .file-is, s .at-is ∙ r .1)
 
 pub refusals : Refusals
 unfolding checked asked planned moved budgeted copied shuffled ran handedOver printed
@@ -55,5 +79,7 @@ refusals =
       whole-run = λ racks b h n f e. rw (e, ne-eqb n 0 f);
       read-file = refused-read;
       read-job = refused-job;
+      step-at = refused-step;
+      next = refused-next;
       list-job = λ file lent n f e. rw (e, ne-eqb n 0 f);
     }

@@ -20,7 +20,7 @@ use Rattle.factors.proofs.Factors.{factors-lowest, factors-ascend, factors-once
 use Rattle.factors.proofs.Costs.{copies-shift, copies-cycle, cost-shift, cost-cycle, cost-settled, list-most}
 use Rattle.factors.proofs.Counted.{list-count}
 use Rattle.shuffle.proofs.Bytes.{brought-home}
-use Rattle.demands.specs.Section2.{Follows, links, Factor, CopyList}
+use Rattle.demands.specs.Section2.{Leads, links, Factor, CopyList}
 use Rattle.demands.specs.Section2.Factor.{isShift, isCycle, isSettled}
 
 -- back to front is the chain's copies, the last first
@@ -34,7 +34,7 @@ unfolding cycle
 cycle-is x y l = rw (shift-is x (y ∷ l))
 
 module _ {places : List ℕ} (ok : Chained places) where
-  follows : (s x : ℕ) (l : List ℕ) → Path (next places) s x l → ((v : ℕ) → In v (x ∷ l) → v < length places) → Follows places x l
+  follows : (s x : ℕ) (l : List ℕ) → Path (next places) s x l → ((v : ℕ) → In v (x ∷ l) → v < length places) → Leads places x l
   follows s x [] p low = tt
   follows s x (y ∷ l) p low = (sym (next-is places x (low x (inl refl))) ∙ p .0, follows s y l (p .3) (λ v m. low v (inr m)))
 

@@ -25,7 +25,8 @@ use Rattle.plans.specs.Plan.{openSlots, room, arrivals, planFor, plan}
 use Rattle.plans.proofs.Grants.{length-arrivals, length-open}
 use Rattle.plans.proofs.Plans.{plan-for-serves}
 use Rattle.moves.specs.Moves.{between}
-use Rattle.demands.specs.Figure1.{recv, dueTo, received}
+use Rattle.demands.specs.Figure1Loop.{recv}
+use Rattle.demands.specs.Figure1.{dueTo, received}
 use Rattle.demands.proofs.Figure1.{received-are}
 
 module _ {A : Type 0} (f : A → Bool) where

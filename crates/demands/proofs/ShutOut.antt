@@ -27,7 +27,7 @@ use Rattle.listing.specs.Listing.{listing}
 use Rattle.demands.specs.ShutOut.{Runner, MeetsRun, Budgeter, MeetsBudget, Planner, MeetsPlan, Phaser, MeetsPhases, ShutOutRuns, ShutOutBudgets, ShutOutPlans, ShutOutPhases, idleText, ShutOut}
 use Rattle.demands.specs.Paper.{caps1, held1, file1, paper}
 use Rattle.demands.proofs.CaseOne.{caps10, held10, after1, after10, refused10, planned1, cases}
-use Rattle.demands.proofs.Acceptance.{accepted-legal, accepted-small, accepted-long}
+use Rattle.demands.proofs.Acceptance.{accepted-legal}
 
 -- the number, the moves and the first entry of an outcome
 abbrev numberOf : Outcome → ℕ
@@ -53,9 +53,9 @@ module _ (caps : List ℕ) (b : ℕ) (h : Held) (z : first (cardChecks (ofCaps c
       go : counts (ofCaps caps) b h ≡ record { phases = length (phases (ofCaps caps) (h .places)); moves = aways (ofCaps caps) (h .places); copies = length (copyList (gathered (ofCaps caps) b h .places)) }
       go =
           let s = spared-caps caps in
-          let p = run-phases (ofCaps caps) b h is-legal s (accepted-small caps b (h .places) (h .cards) z) (accepted-long (ofCaps caps) b (h .places) (h .cards) z) in
-          let q = run-moves (ofCaps caps) b h is-legal s (accepted-small caps b (h .places) (h .cards) z) (accepted-long (ofCaps caps) b (h .places) (h .cards) z) in
-          let r = run-copies (ofCaps caps) b h is-legal s (accepted-small caps b (h .places) (h .cards) z) (accepted-long (ofCaps caps) b (h .places) (h .cards) z) in
+          let p = run-phases (ofCaps caps) b h is-legal s in
+          let q = run-moves (ofCaps caps) b h is-legal s in
+          let r = run-copies (ofCaps caps) b h is-legal s in
           λ i. record { phases = p i; moves = q i; copies = r i }
 
   -- the moves of a budget

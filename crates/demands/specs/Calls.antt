@@ -1,10 +1,12 @@
 -- Calls on one table and its cards, one after another, refused ones among them. Assumes nothing: these are definitions.
+use mathlib.Core.Path.{_≡_}
 use mathlib.Core.List.{List, [], _∷_, _++_}
 use Prim.Native.Nat.{ℕ, _+_}
 use Rattle.counting.specs.Tests.{pick}
-use Rattle.counting.specs.Lists.{Pair}
+use Rattle.counting.specs.Lists.{Pair, each}
 use Rattle.counting.specs.Checks.{done}
 use Rattle.racks.specs.Racks.{Rack}
+use Rattle.answers.specs.Answers.{answer, movesOf}
 use Rattle.moves.specs.Moves.{Held, Outcome, moved}
 use Rattle.moves.specs.Phases.{budget, budgeted}
 
@@ -41,3 +43,12 @@ made racks b (call ∷ calls) h = makes racks b h call ++ made racks b calls (ca
 unfoldable pub counted : List Rack → ℕ → List Call → Held → ℕ
 counted racks b [] h = 0
 counted racks b (call ∷ calls) h = called racks b h call .answer .tally .moves + counted racks b calls (called racks b h call .held)
+
+-- moves as single-move calls
+unfoldable pub singles : List Pair → List Call
+singles ms = each (λ (m : Pair). single (m .0) (m .1)) ms
+
+-- these calls, one after another: each is accepted when its turn comes, and counts one move
+unfoldable pub AllAccepted : List Rack → ℕ → Held → List Pair → Type 0
+AllAccepted racks b h [] = Unit {0}
+AllAccepted racks b h (m ∷ ms) = (moved racks b h m .answer ≡ answer 0 (movesOf 1)) × AllAccepted racks b (moved racks b h m .held) ms

@@ -5,7 +5,7 @@ use mathlib.Core.Logic.{_≢_, _↔_}
 use mathlib.Core.Bool.{true}
 use mathlib.Core.List.{List, [], _∷_}
 use Prim.Native.Nat.{ℕ, suc, _+_, _≤_, _<_}
-use lib.ListN.{length, getD}
+use lib.ListN.{length, getD, take}
 use denote.Ref.{now}
 use Rattle.counting.specs.Lists.{flat}
 use Rattle.racks.specs.Racks.{Rack, ofCaps, users, total, base, slots, rackOf, isUser}
@@ -14,19 +14,23 @@ use Rattle.answers.specs.declared.Answer.{Answer}
 use Rattle.tables.specs.Check.{checked}
 use Rattle.slots.specs.Slots.{nothing, asked}
 use Rattle.plans.specs.Plan.{plan, planned}
-use Rattle.moves.specs.Moves.{Held, moved}
+use Rattle.moves.specs.Moves.{Held, held, moved}
 use Rattle.moves.specs.Phases.{budgeted}
 use Rattle.factors.specs.Copies.{copyList, copied}
 use Rattle.shuffle.specs.Shuffle.{shuffled}
 use Rattle.runs.specs.Run.{ran}
 use Rattle.jobfile.specs.Numeral.{numeral}
 use Rattle.jobfile.specs.File.{fileRacks, fileBytes, read}
-use Rattle.jobreader.specs.Reading.{ahead, JobRead}
+use Rattle.jobfile.specs.declared.Numeral.{Numeral}
+use Rattle.jobfile.specs.declared.Numeral.the-variants.{Refused}
+use Rattle.jobreader.specs.Reading.{Stepped, Next, ahead, JobRead}
 use Rattle.jobreader.specs.declared.Reader.{Reader}
+use Rattle.jobreader.specs.declared.Step.{Step}
 use Rattle.jobreader.specs.declared.JobFile.{JobFile}
 use Rattle.texts.specs.Lines.{refusedLine}
 use Rattle.runtexts.specs.RunText.{runText}
 use Rattle.listing.specs.Listing.{fileHeld, listing, printed}
+use Rattle.demands.specs.Accepted.{Accepted}
 use Rattle.demands.specs.OneOutcome.{jobSeen}
 use Rattle.demands.specs.Rows.{None, Holds, Given, _then_}
 use Rattle.demands.specs.Conditions.{UserSlot, NoSlot, CardAway, TooShort, tableRows, cardRows, endRows}
@@ -60,9 +64,13 @@ pub record Demand1 : Type 0 where
   pub form : (file : List ℕ) (at : ℕ) → Given (numeral file at .number) (formRows file at)
   pub ends : (file : List ℕ) (at : ℕ) → numeral file at .number ≡ 0 → (i : ℕ) × EndsWith file at i
   pub value : (file : List ℕ) (at i : ℕ) → EndsWith file at i → numeral file at ≡ record { number = 0; value = valueOf file at i; place = at + i + 1 }
-  -- the program looks at 18 before all else; its text says `refused n`, or is that of a run
-  pub shelve-refuses : (file : List ℕ) (n : ℕ) → Holds n ((18, FileTooLarge file) ∷ fileRows file) → listing file ≡ refusedLine n
+  -- the program looks at 18 before all else; its text says `refused n` exactly when condition n holds, or is that of a run, which is no such line
+  pub shelve-refuses : (file : List ℕ) (n : ℕ) → (listing file ≡ refusedLine n) ↔ Holds n ((18, FileTooLarge file) ∷ fileRows file)
+  pub run-no-refusal : (racks : List Rack) (b : ℕ) (h : Held) (n : ℕ) → runText racks b h ≢ refusedLine n
   pub shelve-runs : (file : List ℕ) → None ((18, FileTooLarge file) ∷ fileRows file) → listing file ≡ runText (fileRacks file) (fileBytes file) (fileHeld file)
+  -- a file that is read without refusal gives a job that 1 to 6 do not refuse: what the lists hold at their fronts, B and the card bytes
+  pub read-accepted : (file caps places : List ℕ) → read file caps places .answer .number ≡ 0
+      → let r = read file caps places in Accepted (take (r .racks) (r .caps)) (r .bytes) (held (take (r .slots) (r .places)) (r .cards))
   -- the words of the conditions: N and the m_p are those of the capacities lent, S = total + N
   pub capacities : (caps : List ℕ) → (length (ofCaps caps) ≡ length caps) × (slots (ofCaps caps) ≡ total (ofCaps caps) + length caps)
   pub users-lent : (caps : List ℕ) (p : ℕ) → p < length caps → users (ofCaps caps) p ≡ getD caps p 0
@@ -97,6 +105,10 @@ pub record Refusals : Type 0 where
       → read file caps places
       ≡ record { answer = refusedWith n; racks = 0; bytes = 0; slots = 0; caps = caps; places = places; place = 0; cards = [] }
   pub read-job : (reader : Reader) (caps places : List ℕ) (job : JobFile) (caps′ places′ : List ℕ) (n : ℕ) → JobRead reader caps places job caps′ places′ → n ≢ 0
-      → job .answer .number ≡ n → jobSeen (job, caps′, places′) ≡ (refusedWith n, 0, 0, 0, [], caps, places)
+      → job .answer .number ≡ n → jobSeen (job, caps′, places′) ≡ (refusedWith n, 0, 0, 0, 0, [], caps, places)
+  -- a numeral that is refused leaves the place where it was
+  pub step-at : (file : List ℕ) (at n : ℕ) (step : Step) → Stepped file at step → n ≢ 0 → numeral file at .number ≡ n → (step .numeral ≡ Refused n) × (step .at ≡ at)
+  pub next : (before after : Reader) (x : Numeral) (n : ℕ) → Next before x after → n ≢ 0 → numeral (now (before .file)) (before .at) .number ≡ n
+      → (x ≡ Refused n) × (after .file ≡ before .file) × (after .at ≡ before .at)
   pub list-job : (file lent : List ℕ) (n : ℕ) → n ≢ 0 → printed file lent .answer .number ≡ n
       → printed file lent ≡ record { answer = refusedWith n; size = 0; lent = lent }

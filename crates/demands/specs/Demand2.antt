@@ -1,24 +1,26 @@
 -- Demand 2: every plan, every phase, the whole run and the shuffle of an accepted job, exactly.
 -- Assumes nothing: these are statements; `demand2` in proofs/Demand2 proves them.
 use mathlib.Core.Path.{_≡_}
-use mathlib.Core.Logic.{_≢_}
 use mathlib.Core.List.{List, [], List·Permᴰ}
-use Prim.Native.Nat.{ℕ, _-_, _*_, _≤_, _<_, min}
+use Prim.Native.Nat.{ℕ, suc, _+_, _-_, _≤_, _<_, min}
+use lib.Dec.{ltb}
 use lib.ListN.{length, getD, take}
+use Rattle.counting.specs.Count.{sum}
 use Rattle.counting.specs.Lists.{Pair, join, matching}
 use Rattle.counting.specs.Every.{All, Pairwise, In}
-use Rattle.racks.specs.Limits.{FREE}
 use Rattle.racks.specs.Racks.{Rack, slots, rackOf}
-use Rattle.racks.specs.Table.{dest, aways, owes}
+use Rattle.racks.specs.Table.{aways, owes}
 use Rattle.answers.specs.Answers.{answer, movesOf}
 use Rattle.plans.specs.Plan.{room, plan}
-use Rattle.moves.specs.Blocks.{block, blank}
 use Rattle.moves.specs.Moves.{Held, carried, between, moved, Disjoint}
 use Rattle.moves.specs.Phases.{phases, budgeted}
 use Rattle.factors.specs.Copies.{factor, copyList}
 use Rattle.shuffle.specs.Shuffle.{shuffled}
+use Rattle.shuffle.specs.Home.{Home}
 use Rattle.runs.specs.Run.{ran}
-use Rattle.demands.specs.Figure1.{recv, dueTo, figure1, bySlot}
+use Rattle.demands.specs.Calls.{after, singles, AllAccepted}
+use Rattle.demands.specs.Figure1Loop.{State, recv, alltoall, computeMoves, rounds, goesOn, extra}
+use Rattle.demands.specs.Figure1.{dueTo, figure1, bySlot}
 use Rattle.demands.specs.Section2.{CopyList}
 
 -- the single move accepts m
@@ -44,15 +46,9 @@ pub record Phase (racks : List Rack) (b : ℕ) (h : Held) (pairs : List Pair) : 
   pub some : 0 < aways racks (h .places) → 0 < length pairs
   -- carried in any order they give the same table and the same cards
   pub any-order : (ms : List Pair) → List·Permᴰ pairs ms → carried b ms h ≡ carried b pairs h
-
--- every card of h is home in `end`: in the slot that its entry named, with its bytes; all else is free and zero
-pub record Home (racks : List Rack) (b : ℕ) (h end : Held) : Type 0 where
-  pub card : (g d : ℕ) → g < slots racks → dest (h .places) g ≡ d → d ≢ FREE → block b d (end .cards) ≡ block b g (h .cards)
-  pub self : (g d : ℕ) → g < slots racks → dest (h .places) g ≡ d → d ≢ FREE → dest (end .places) d ≡ d
-  pub zero : (d : ℕ) → d < slots racks → ((g : ℕ) → g < slots racks → dest (h .places) g ≢ d) → block b d (end .cards) ≡ blank b
-  pub none : (d : ℕ) → d < slots racks → ((g : ℕ) → g < slots racks → dest (h .places) g ≢ d) → dest (end .places) d ≡ FREE
-  pub places-long : length (end .places) ≡ slots racks
-  pub cards-long : length (end .cards) ≡ slots racks * b
+  -- and as single-move calls, in any order, each is accepted when its turn comes and counts one, and they leave the same
+  pub any-calls : (ms : List Pair) → List·Permᴰ pairs ms → AllAccepted racks b h ms
+  pub calls-leave : (ms : List Pair) → List·Permᴰ pairs ms → after racks b (singles ms) h ≡ carried b pairs h
 
 -- the shuffle of an accepted table and its cards, with nothing away
 pub record Shuffle (racks : List Rack) (b : ℕ) (h : Held) : Type 0 where
@@ -73,6 +69,55 @@ module _ (racks : List Rack) (b : ℕ) (h : Held) where
   abbrev pub startOf : ℕ → Held
   startOf n = carried b (join (take n plans)) h
 
+  -- figure 1's input: the free slots of each rack, and what each owes each
+  abbrev pub input : State
+  input = alltoall (room racks (h .places)) (owes racks (h .places))
+
+  -- its loop before round n, from the input on, with no look at a later table
+  abbrev pub loopAt : ℕ → State
+  loopAt n = rounds (length racks) n input
+
+  -- what rack p receives in phase n, and what it sends
+  abbrev pub takes : ℕ → ℕ → ℕ
+  takes n p = sum (length racks) (λ i. matching (between racks i p) (getD plans n []))
+
+  abbrev pub gives : ℕ → ℕ → ℕ
+  gives n p = sum (length racks) (λ i. matching (between racks p i) (getD plans n []))
+
+  -- what it is still to receive when phase n begins, and to send
+  abbrev pub toReceive : ℕ → ℕ → ℕ
+  toReceive n p = sum (length racks) (λ i. owes racks (startOf n .places) i p)
+
+  abbrev pub toSend : ℕ → ℕ → ℕ
+  toSend n p = sum (length racks) (λ i. owes racks (startOf n .places) p i)
+
+  -- figure 1's loop is the run: round n is phase n
+  pub record Figure1Run : Type 0 where
+    -- before round n, free on p is the free slots of rack p when phase n begins
+    pub free-is : (n p : ℕ) → n ≤ length plans → p < length racks → loopAt n .free p ≡ room racks (startOf n .places) p
+    -- out[p] on i is what rack i owes rack p then
+    pub out-is : (n i p : ℕ) → n ≤ length plans → i < length racks → p < length racks → loopAt n .out i p ≡ owes racks (startOf n .places) i p
+    -- and so is in[i] on p
+    pub in-is : (n i p : ℕ) → n ≤ length plans → i < length racks → p < length racks → loopAt n .due p i ≡ owes racks (startOf n .places) i p
+    -- in round n, recv[i] on p is how many pairs of phase n go from rack i to rack p
+    pub recv-is : (n i p : ℕ) → n < length plans → i < length racks → p < length racks
+        → computeMoves (loopAt n) .recv p i ≡ matching (between racks i p) (getD plans n [])
+    -- and so is send[p] on i
+    pub send-is : (n i p : ℕ) → n < length plans → i < length racks → p < length racks
+        → computeMoves (loopAt n) .send i p ≡ matching (between racks i p) (getD plans n [])
+    -- line 4: what all racks are still to send when phase n begins is the cards away then
+    pub all-owed : (n : ℕ) → sum (length racks) (toSend n) ≡ aways racks (startOf n .places)
+    -- and the test before round n holds exactly where there is a phase n: the loop ends when the run does
+    pub test : (n : ℕ) → n ≤ length plans → goesOn (length racks) (loopAt n) ≡ ltb n (length plans)
+    -- line 27: the free slots of p at the next phase and what p received in this one are those at this one and what it sent
+    pub line27 : (n p : ℕ) → n < length plans → p < length racks → room racks (startOf (suc n) .places) p + takes n p ≡ room racks (startOf n .places) p + gives n p
+    -- equation (2): the free slots, less what p is still to receive, plus what it is still to send, are at every phase what they were at the start
+    pub equation2 : (n p : ℕ) → p < length racks → room racks (startOf n .places) p + toSend n p ≡ extra (length racks) input p + toReceive n p
+    -- theorem 2's premise: that number is at least 1
+    pub premise : (p : ℕ) → p < length racks → 1 ≤ extra (length racks) input p
+    -- and it is how many slots of p are free after the last phase
+    pub free-end : (p : ℕ) → p < length racks → room racks (startOf (length plans) .places) p ≡ extra (length racks) input p
+
   pub record Demand2 : Type 0 where
     -- the plan that may be asked for now, and the shuffle where nothing is away
     pub plan-now : Phase racks b h (plan racks (h .places))
@@ -81,6 +126,8 @@ module _ (racks : List Rack) (b : ℕ) (h : Held) where
     pub phase : (n : ℕ) → n < length plans → Phase racks b (startOf n) (getD plans n [])
     pub goes-on : (n : ℕ) → n < length plans → 0 < aways racks (startOf n .places)
     pub over : aways racks (startOf (length plans) .places) ≡ 0
+    -- the sequence is figure 1's
+    pub figure1-run : Figure1Run
     -- then the shuffle
     pub shuffle : Shuffle racks b (startOf (length plans))
     pub then-shuffle : ran racks b h .held ≡ shuffled racks b (startOf (length plans)) .held

@@ -10,13 +10,14 @@ use lib.ListN.{length, getD, take}
 use Rattle.counting.specs.Tests.{_and_, bit}
 use Rattle.counting.specs.Count.{count}
 use Rattle.counting.specs.Lists.{Pair, matching}
-use Rattle.counting.specs.Checks.{done}
+use Rattle.counting.specs.Checks.{first, done}
 use Rattle.racks.specs.Limits.{FREE}
 use Rattle.racks.specs.Racks.{Rack, slots}
+use Rattle.racks.specs.Numbers.{cardChecks}
 use Rattle.racks.specs.Table.{dest, free, away, aways, owes, names}
 use Rattle.answers.specs.Answers.{answer, movesOf}
 use Rattle.moves.specs.Blocks.{block}
-use Rattle.moves.specs.Moves.{Held, carried, between, moved}
+use Rattle.moves.specs.Moves.{Held, carried, between, endChecks, moved}
 use Rattle.runs.specs.Awaits.{awaits}
 use Rattle.demands.specs.Calls.{Call, called, makes, after, made, counted}
 use Rattle.demands.specs.Calls.Call.{single, atMost}
@@ -50,6 +51,9 @@ module _ (racks : List Rack) (b : ℕ) (h : Held) (calls : List Call) where
     -- every move made, inside budgeted calls too, is a single move that is accepted when its turn comes
     pub each-move : (n : ℕ) → n < moveCount
         → moved racks b (point n) (moveAt n) ≡ record { answer = answer 0 (movesOf 1); held = point (suc n) }
+    -- at every point 1 to 6 find nothing to refuse, so only 7 to 11 can refuse a single move there
+    pub accepted : (n : ℕ) → first (cardChecks racks b (point n .places) (point n .cards)) ≡ 0
+    pub only-ends : (n from to : ℕ) → moved racks b (point n) (from, to) .answer .number ≡ first (endChecks racks (point n .places) (from, to))
     -- (a) at every point as many entries name slot d as at the start, 0 or 1: no card is lost, doubled or new
     pub same-cards : (n d : ℕ) → d ≢ FREE → count (slots racks) (names (point n .places) d) ≡ count (slots racks) (names (h .places) d)
     pub once : (d : ℕ) → d ≢ FREE → count (slots racks) (names (h .places) d) ≤ 1

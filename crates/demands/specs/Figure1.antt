@@ -1,21 +1,13 @@
--- Figure 1 of document 001: the loop of computeMoves in its own words, and the slots that the scope gives its numbers. Assumes nothing: these are definitions.
+-- The plan as figure 1 of document 001 has it: computeMoves' numbers, and the slots that the scope gives them. Assumes nothing: these are definitions.
 use mathlib.Core.List.{List}
-use Prim.Native.Nat.{ℕ, zero, suc, _-_, min}
+use Prim.Native.Nat.{ℕ}
 use lib.ListN.{length, take}
 use Rattle.counting.specs.Count.{select}
 use Rattle.counting.specs.Lists.{Pair, tabulate, join, pairUp}
 use Rattle.racks.specs.Racks.{Rack, slots}
 use Rattle.racks.specs.Table.{awayTo, bound, owes}
 use Rattle.plans.specs.Plan.{openSlots, room}
-
--- r before turn i of the loop, on a process with `free` spaces and in = `due`: line 10, and line 13 after each turn
-unfoldable pub r : ℕ → (ℕ → ℕ) → ℕ → ℕ
-r free due zero = free
-r free due (suc i) = let now = r free due i in now - min now (due i)
-
--- line 12: recv[i] ← min{r, in[i]}
-unfoldable pub recv : ℕ → (ℕ → ℕ) → ℕ → ℕ
-recv free due i = min (r free due i) (due i)
+use Rattle.demands.specs.Figure1Loop.{recv}
 
 -- in[i] on rack p
 unfoldable pub dueTo : List Rack → List ℕ → ℕ → ℕ → ℕ

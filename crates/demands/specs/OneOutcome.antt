@@ -1,42 +1,34 @@
 -- One outcome: any two outcomes that a public call's contract allows are equal. An outcome is what the call gives and every lent list and byte at exit;
--- each line repeats the contract that stands at the call. Assumes nothing: these are statements; `one-outcome` in proofs/OneOutcome proves them.
+-- each line cites the contract by the name under which the call cites it. Assumes nothing: these are statements; `one-outcome` in proofs/OneOutcome proves them.
 use mathlib.Core.Path.{_≡_}
 use mathlib.Core.List.{List}
 use Prim.Native.Nat.{ℕ}
-use lib.ListN.{drop}
 use denote.Ref.{RefT, now}
-use Rattle.racks.specs.Racks.{ofCaps}
-use Rattle.racks.specs.Job.{jobOf}
-use Rattle.answers.specs.Answers.{noCounts, movesOf, copiesOf, answer, listedOf}
-use Rattle.racks.specs.declared.Job.{Job}
+use Rattle.racks.specs.Job.{JobOf}
+use Rattle.answers.specs.Answers.{TallyNone, TallyOfMoves, TallyOfCopies, AnswerOf, AnswerDone}
 use Rattle.answers.specs.declared.Tally.{Tally}
 use Rattle.answers.specs.declared.Answer.{Answer}
-use Rattle.tables.specs.Check.{checked}
-use Rattle.slots.specs.Slots.{asked}
-use Rattle.slots.specs.declared.SlotAnswer.{SlotAnswer}
-use Rattle.plans.specs.Plan.{planned}
-use Rattle.moves.specs.Moves.{moved, held, outcomeOf}
-use Rattle.moves.specs.Phases.{budgeted}
-use Rattle.factors.specs.Copies.{copied}
-use Rattle.shuffle.specs.Shuffle.{shuffled}
-use Rattle.runs.specs.Run.{ran}
-use Rattle.jobfile.specs.File.{read}
-use Rattle.jobfile.specs.Answers.{cardsOf, readOf}
+use Rattle.tables.specs.Check.{CheckTable}
+use Rattle.slots.specs.Slots.{SlotQuestion}
+use Rattle.plans.specs.Plan.{PhasePlan}
+use Rattle.moves.specs.Moves.{OneMove, held, outcomeOf}
+use Rattle.moves.specs.Phases.{BudgetedMoves}
+use Rattle.factors.specs.Copies.{CopyList}
+use Rattle.shuffle.specs.Shuffle.{ShuffleCards}
+use Rattle.runs.specs.Run.{WholeRun}
+use Rattle.jobfile.specs.Answers.{ReadFile, RestOf, CardBytes}
 use Rattle.jobfile.specs.declared.Numeral.{Numeral}
 use Rattle.jobfile.specs.declared.FileAnswer.{FileAnswer}
-use Rattle.jobreader.specs.Reading.{Stepped, Next, JobRead}
+use Rattle.jobreader.specs.Reading.{Stepped, New, Next, JobRead}
 use Rattle.jobreader.specs.declared.Reader.{Reader}
-use Rattle.jobreader.specs.declared.Step.{Step}
 use Rattle.jobreader.specs.declared.JobFile.{JobFile}
-use Rattle.listing.specs.Listing.{printed, printedOf}
+use Rattle.listing.specs.Listing.{ListJob}
 use Rattle.texts.specs.declared.TextAnswer.{TextAnswer}
-use Rattle.flat.specs.Flat.{answerOf, slotNumbers, fileOf, textOf}
+use Rattle.flat.specs.Flat.{answerOf, fileOf, textOf}
 use Rattle.flat.specs.declared.Answer as c
-use Rattle.flat.specs.declared.SlotAnswer as c-slot
 use Rattle.flat.specs.declared.FileAnswer as c-file
 use Rattle.flat.specs.declared.ListingAnswer as c-text
-use Rattle.seineflute.specs.Limits.{limits}
-use Rattle.seineflute.specs.declared.Limits.{Limits}
+use Rattle.seineflute.specs.Contracts.{LimitsGiven, SlotNumbers}
 
 -- any two that are allowed are equal
 abbrev pub One : {A : Type 0} → (A → Type 0) → Type 0
@@ -47,56 +39,56 @@ abbrev pub OneSeen : {A B : Type 0} → (A → B) → (A → Type 0) → Type 0
 OneSeen {A} seen allowed = (x y : A) → allowed x → allowed y → seen x ≡ seen y
 
 -- what is seen of a job that is read: the part of the file that its cards are is known by its bytes
-abbrev pub jobSeen : JobFile × List ℕ × List ℕ → Answer × ℕ × ℕ × ℕ × List ℕ × List ℕ × List ℕ
-jobSeen (job, caps, places) = (job .answer, job .racks, job .bytes, job .slots, now (job .cards), caps, places)
+abbrev pub jobSeen : JobFile × List ℕ × List ℕ → Answer × ℕ × ℕ × ℕ × ℕ × List ℕ × List ℕ × List ℕ
+jobSeen (job, caps, places) = (job .answer, job .racks, job .bytes, job .slots, job .place, now (job .cards), caps, places)
 
 pub record OneOutcome : Type 0 where
-  pub check-table : (caps places : List ℕ) → One (λ (r : Answer). r ≡ checked (ofCaps caps) places)
-  pub slot-question : (caps places : List ℕ) (g : ℕ) → One (λ (r : SlotAnswer). r ≡ asked (ofCaps caps) places g)
-  pub phase-plan : (caps places lent : List ℕ) → One (λ ((r, lent′) : Answer × List ℕ). listedOf r lent′ ≡ planned (ofCaps caps) places lent)
+  pub check-table : (caps places : List ℕ) → One (CheckTable caps places)
+  pub slot-question : (caps places : List ℕ) (g : ℕ) → One (SlotQuestion caps places g)
+  pub phase-plan : (caps places lent : List ℕ) → One (λ ((r, lent′) : Answer × List ℕ). PhasePlan caps places lent r lent′)
   pub one-move : (caps : List ℕ) (b : ℕ) (places cards : List ℕ) (from to : ℕ)
-      → One (λ ((r, places′, cards′) : Answer × List ℕ × List ℕ). outcomeOf r places′ cards′ ≡ moved (ofCaps caps) b (held places cards) (from, to))
+      → One (λ ((r, places′, cards′) : Answer × List ℕ × List ℕ). OneMove caps b (held places cards) (from, to) (outcomeOf r places′ cards′))
   pub budgeted-moves : (caps : List ℕ) (b : ℕ) (places cards : List ℕ) (k : ℕ)
-      → One (λ ((r, places′, cards′) : Answer × List ℕ × List ℕ). outcomeOf r places′ cards′ ≡ budgeted (ofCaps caps) b (held places cards) k)
-  pub copy-list : (caps places lent : List ℕ) → One (λ ((r, lent′) : Answer × List ℕ). listedOf r lent′ ≡ copied (ofCaps caps) places lent)
+      → One (λ ((r, places′, cards′) : Answer × List ℕ × List ℕ). BudgetedMoves caps b (held places cards) k (outcomeOf r places′ cards′))
+  pub copy-list : (caps places lent : List ℕ) → One (λ ((r, lent′) : Answer × List ℕ). CopyList caps places lent r lent′)
   pub shuffle-cards : (caps : List ℕ) (b : ℕ) (places cards : List ℕ)
-      → One (λ ((r, places′, cards′) : Answer × List ℕ × List ℕ). outcomeOf r places′ cards′ ≡ shuffled (ofCaps caps) b (held places cards))
+      → One (λ ((r, places′, cards′) : Answer × List ℕ × List ℕ). ShuffleCards caps b (held places cards) (outcomeOf r places′ cards′))
   pub whole-run : (caps : List ℕ) (b : ℕ) (places cards : List ℕ)
-      → One (λ ((r, places′, cards′) : Answer × List ℕ × List ℕ). outcomeOf r places′ cards′ ≡ ran (ofCaps caps) b (held places cards))
+      → One (λ ((r, places′, cards′) : Answer × List ℕ × List ℕ). WholeRun caps b (held places cards) (outcomeOf r places′ cards′))
   pub read-file : (file caps places : List ℕ)
-      → One (λ ((r, caps′, places′) : FileAnswer × List ℕ × List ℕ). readOf r caps′ places′ file ≡ read file caps places)
-  pub list-job : (file lent : List ℕ) → One (λ ((r, lent′) : TextAnswer × List ℕ). printedOf r lent′ ≡ printed file lent)
+      → One (λ ((r, caps′, places′) : FileAnswer × List ℕ × List ℕ). ReadFile file caps places r caps′ places′)
+  pub list-job : (file lent : List ℕ) → One (λ ((r, lent′) : TextAnswer × List ℕ). ListJob file lent r lent′)
   -- the reader that remembers its place; a part of the file is known by its bytes
-  pub rest-of : (file : List ℕ) (at : ℕ) → OneSeen now (λ (r : RefT (List ℕ)). now r ≡ drop at file)
-  pub card-bytes : (file : List ℕ) (found : FileAnswer) → OneSeen now (λ (r : RefT (List ℕ)). now r ≡ cardsOf found file)
-  pub step-at : (file : List ℕ) (at : ℕ) → One (λ (r : Step). Stepped file at r)
-  pub new : (file : RefT (List ℕ)) → One (λ (r : Reader). (r .file ≡ file) × (r .at ≡ 0))
+  pub rest-of : (file : List ℕ) (at : ℕ) → OneSeen now (λ (r : RefT (List ℕ)). RestOf file at (now r))
+  pub card-bytes : (file : List ℕ) (found : FileAnswer) → OneSeen now (λ (r : RefT (List ℕ)). CardBytes file found (now r))
+  pub step-at : (file : List ℕ) (at : ℕ) → One (Stepped file at)
+  pub new : (file : RefT (List ℕ)) → One (New file)
   pub next : (reader : Reader) → One (λ ((n, reader′) : Numeral × Reader). Next reader n reader′)
   pub read-job : (reader : Reader) (caps places : List ℕ)
       → OneSeen jobSeen (λ ((job, caps′, places′) : JobFile × List ℕ × List ℕ). JobRead reader caps places job caps′ places′)
   -- the small ones: a job of capacities, counts, answers
-  pub job-of : (caps : List ℕ) → One (λ (r : Job). r ≡ jobOf (ofCaps caps))
-  pub tally-none : One (λ (r : Tally). r ≡ noCounts)
-  pub tally-of-moves : (moves : ℕ) → One (λ (r : Tally). r ≡ movesOf moves)
-  pub tally-of-copies : (copies : ℕ) → One (λ (r : Tally). r ≡ copiesOf copies)
-  pub answer-of : (n : ℕ) → One (λ (r : Answer). r ≡ answer n noCounts)
-  pub answer-done : (tally : Tally) → One (λ (r : Answer). r ≡ answer 0 tally)
+  pub job-of : (caps : List ℕ) → One (JobOf caps)
+  pub tally-none : One TallyNone
+  pub tally-of-moves : (moves : ℕ) → One (TallyOfMoves moves)
+  pub tally-of-copies : (copies : ℕ) → One (TallyOfCopies copies)
+  pub answer-of : (n : ℕ) → One (AnswerOf n)
+  pub answer-done : (tally : Tally) → One (AnswerDone tally)
   -- the calls from C: the same, of the numbers that C is given
-  pub c-check-table : (caps places : List ℕ) → One (λ (r : c.Answer). answerOf r ≡ checked (ofCaps caps) places)
-  pub c-slot-question : (caps places : List ℕ) (g : ℕ) → One (λ (r : c-slot.SlotAnswer). r ≡ slotNumbers (asked (ofCaps caps) places g))
+  pub c-check-table : (caps places : List ℕ) → One (λ (r : c.Answer). CheckTable caps places (answerOf r))
+  pub c-slot-question : (caps places : List ℕ) (g : ℕ) → One (SlotNumbers caps places g)
   pub c-phase-plan : (caps places lent : List ℕ)
-      → One (λ ((r, lent′) : c.Answer × List ℕ). listedOf (answerOf r) lent′ ≡ planned (ofCaps caps) places lent)
+      → One (λ ((r, lent′) : c.Answer × List ℕ). PhasePlan caps places lent (answerOf r) lent′)
   pub c-one-move : (caps : List ℕ) (b : ℕ) (places cards : List ℕ) (from to : ℕ)
-      → One (λ ((r, places′, cards′) : c.Answer × List ℕ × List ℕ). outcomeOf (answerOf r) places′ cards′ ≡ moved (ofCaps caps) b (held places cards) (from, to))
+      → One (λ ((r, places′, cards′) : c.Answer × List ℕ × List ℕ). OneMove caps b (held places cards) (from, to) (outcomeOf (answerOf r) places′ cards′))
   pub c-budgeted-moves : (caps : List ℕ) (b : ℕ) (places cards : List ℕ) (k : ℕ)
-      → One (λ ((r, places′, cards′) : c.Answer × List ℕ × List ℕ). outcomeOf (answerOf r) places′ cards′ ≡ budgeted (ofCaps caps) b (held places cards) k)
+      → One (λ ((r, places′, cards′) : c.Answer × List ℕ × List ℕ). BudgetedMoves caps b (held places cards) k (outcomeOf (answerOf r) places′ cards′))
   pub c-copy-list : (caps places lent : List ℕ)
-      → One (λ ((r, lent′) : c.Answer × List ℕ). listedOf (answerOf r) lent′ ≡ copied (ofCaps caps) places lent)
+      → One (λ ((r, lent′) : c.Answer × List ℕ). CopyList caps places lent (answerOf r) lent′)
   pub c-shuffle-cards : (caps : List ℕ) (b : ℕ) (places cards : List ℕ)
-      → One (λ ((r, places′, cards′) : c.Answer × List ℕ × List ℕ). outcomeOf (answerOf r) places′ cards′ ≡ shuffled (ofCaps caps) b (held places cards))
+      → One (λ ((r, places′, cards′) : c.Answer × List ℕ × List ℕ). ShuffleCards caps b (held places cards) (outcomeOf (answerOf r) places′ cards′))
   pub c-whole-run : (caps : List ℕ) (b : ℕ) (places cards : List ℕ)
-      → One (λ ((r, places′, cards′) : c.Answer × List ℕ × List ℕ). outcomeOf (answerOf r) places′ cards′ ≡ ran (ofCaps caps) b (held places cards))
+      → One (λ ((r, places′, cards′) : c.Answer × List ℕ × List ℕ). WholeRun caps b (held places cards) (outcomeOf (answerOf r) places′ cards′))
   pub c-read-file : (file caps places : List ℕ)
-      → One (λ ((r, caps′, places′) : c-file.FileAnswer × List ℕ × List ℕ). readOf (fileOf r) caps′ places′ file ≡ read file caps places)
-  pub c-list-job : (file lent : List ℕ) → One (λ ((r, lent′) : c-text.ListingAnswer × List ℕ). printedOf (textOf r) lent′ ≡ printed file lent)
-  pub c-limits : One (λ (r : Limits). r ≡ limits)
+      → One (λ ((r, caps′, places′) : c-file.FileAnswer × List ℕ × List ℕ). ReadFile file caps places (fileOf r) caps′ places′)
+  pub c-list-job : (file lent : List ℕ) → One (λ ((r, lent′) : c-text.ListingAnswer × List ℕ). ListJob file lent (textOf r) lent′)
+  pub c-limits : One LimitsGiven

@@ -15,9 +15,9 @@ use Rattle.factors.specs.Factors.{Before, unsettled, turning}
 use Rattle.shuffle.specs.Shuffle.{brought}
 
 -- slot x and the slots behind it: each slot's card goes to the next
-abbrev pub Follows : List ℕ → ℕ → List ℕ → Type 0
-Follows places x [] = Unit {0}
-Follows places x (y ∷ l) = (dest places x ≡ y) × Follows places y l
+abbrev pub Leads : List ℕ → ℕ → List ℕ → Type 0
+Leads places x [] = Unit {0}
+Leads places x (y ∷ l) = (dest places x ≡ y) × Leads places y l
 
 -- the copies from each slot to the next, in the chain's order
 unfoldable pub links : ℕ → List ℕ → List Pair
@@ -27,7 +27,7 @@ links x (y ∷ l) = (x, y) ∷ links y l
 -- a shift [x, ..]: no card goes to its first slot, its last is free; the last card is copied first; n slots cost n - 1 copies
 pub record Shift (places : List ℕ) (x : ℕ) (l : List ℕ) : Type 0 where
   pub starts : (g : ℕ) → g < length places → dest places g ≢ x
-  pub follows : Follows places x l
+  pub follows : Leads places x l
   pub ends : dest places (last x l) ≡ FREE
   pub copies-are : copies places (x ∷ l) ≡ reverse (links x l)
   pub cost : length (copies places (x ∷ l)) + 1 ≡ length (x ∷ l)
@@ -35,7 +35,7 @@ pub record Shift (places : List ℕ) (x : ℕ) (l : List ℕ) : Type 0 where
 -- a cycle (x, y, ..): its first slot is its lowest, where the last one's card goes; that card is in the hand meanwhile; n slots cost n + 1 copies
 pub record Cycle (places : List ℕ) (x y : ℕ) (l : List ℕ) : Type 0 where
   pub lowest : (v : ℕ) → In v (x ∷ y ∷ l) → x ≤ v
-  pub follows : Follows places x (y ∷ l)
+  pub follows : Leads places x (y ∷ l)
   pub ends : dest places (last y l) ≡ x
   pub copies-are : copies places (x ∷ y ∷ l) ≡ (last y l, HAND) ∷ reverse (links x (y ∷ l)) ++ (HAND, x) ∷ []
   pub cost : length (copies places (x ∷ y ∷ l)) ≡ length (x ∷ y ∷ l) + 1

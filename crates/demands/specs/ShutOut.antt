@@ -42,7 +42,7 @@ Planner = List ℕ → List ℕ → List ℕ → Listed
 abbrev pub MeetsPlan : Planner → Type 0
 MeetsPlan p = (caps places lent : List ℕ) → p caps places lent ≡ planned (ofCaps caps) places lent
 
--- a planner of all phases: those that a whole run carries and counts, and that shelve prints
+-- a planner of all phases. No public call gives them by themselves: a whole run carries and counts them, and shelve prints them
 abbrev pub Phaser : Type 0
 Phaser = List ℕ → List ℕ → List (List Pair)
 
@@ -88,7 +88,7 @@ pub record ShutOutPlans (p : Planner) : Type 0 where
   -- it writes nothing
   pub touches-nothing : ¬ ((caps places lent : List ℕ) → p caps places lent .lent ≡ lent)
 
--- the phases of a run are none of these
+-- the phases of a run are none of these. A `Phaser` is no public call: the calls that show phases are those of `plans`, `budgets` and `listings` below
 pub record ShutOutPhases (p : Phaser) : Type 0 where
   -- every transfer is in the first phase, and idle phases follow
   pub all-at-once : ¬ ((caps places : List ℕ) → someAway (ofCaps caps) places ≡ true → (all : List Pair) × (idle : ℕ) × (p caps places ≡ all ∷ replicate idle []))

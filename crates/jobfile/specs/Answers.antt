@@ -1,5 +1,6 @@
 -- What the reader's answers say in the words of the definitions. Assumes nothing: these are definitions.
 use mathlib.Core.List.{List, []}
+use mathlib.Core.Path.{_≡_}
 use Prim.Native.Nat.{ℕ}
 use lib.ListN.{length, drop}
 use Rattle.counting.specs.Tests.{pick}
@@ -7,7 +8,7 @@ use Rattle.counting.specs.Checks.{done}
 use Rattle.racks.specs.Racks.{slots}
 use Rattle.answers.specs.Answers.{noCounts, answer}
 use Rattle.jobfile.specs.Numeral.{Got, refused}
-use Rattle.jobfile.specs.File.{Read, fileRacks, fileBytes, readEntries}
+use Rattle.jobfile.specs.File.{Read, fileRacks, fileBytes, readEntries, read}
 use Rattle.jobfile.specs.declared.Numeral.{Numeral}
 use Rattle.jobfile.specs.declared.Numeral.the-variants.{Value, Refused}
 use Rattle.jobfile.specs.declared.FileAnswer.{FileAnswer}
@@ -53,3 +54,15 @@ doneFile file =
 -- the answer of a file that gives number n
 abbrev pub fileAnswer : List ℕ → ℕ → FileAnswer
 fileAnswer file n = pick (done n) (doneFile file) (refusedFile n)
+
+-- the contract of `read_file`: what it gives, and the two lent lists at exit
+abbrev pub ReadFile : List ℕ → List ℕ → List ℕ → FileAnswer → List ℕ → List ℕ → Type 0
+ReadFile file caps places r caps′ places′ = readOf r caps′ places′ file ≡ read file caps places
+
+-- the contract of `rest_of`: the bytes of the part that it hands back
+abbrev pub RestOf : List ℕ → ℕ → List ℕ → Type 0
+RestOf file at part = part ≡ drop at file
+
+-- the contract of `card_bytes`: the bytes of the part that it hands back
+abbrev pub CardBytes : List ℕ → FileAnswer → List ℕ → Type 0
+CardBytes file found part = part ≡ cardsOf found file

@@ -3,7 +3,7 @@ use mathlib.Core.Path.{_≡_}
 use mathlib.Core.List.{List}
 use Prim.Native.Nat.{ℕ}
 use lib.ListN.{drop}
-use denote.Ref.{now}
+use denote.Ref.{now, RefT}
 use Rattle.jobfile.specs.Numeral.{numeral}
 use Rattle.jobfile.specs.File.{read}
 use Rattle.jobfile.specs.Answers.{gotOf}
@@ -33,12 +33,18 @@ pub record Next (before : Reader) (n : Numeral) (after : Reader) : Type 0 where
 unfoldable pub ahead : Reader → List ℕ
 ahead reader = drop (reader .at) (now (reader .file))
 
--- **Job file.** The job at the reader's place: N, B, S, the card bytes as a part of the file, and the two lent lists at exit
+-- **Job file.** The job at the reader's place: N, B, S, how far behind that place the card bytes begin, these as a part of the file, and the two
+-- lent lists at exit
 pub record JobRead (reader : Reader) (caps places : List ℕ) (job : JobFile) (caps′ places′ : List ℕ) : Type 0 where
   pub answer-is : job .answer ≡ read (ahead reader) caps places .answer
   pub racks-are : job .racks ≡ read (ahead reader) caps places .racks
   pub bytes-are : job .bytes ≡ read (ahead reader) caps places .bytes
   pub slots-are : job .slots ≡ read (ahead reader) caps places .slots
+  pub place-is : job .place ≡ read (ahead reader) caps places .place
   pub cards-are : now (job .cards) ≡ read (ahead reader) caps places .cards
   pub caps-are : caps′ ≡ read (ahead reader) caps places .caps
   pub places-are : places′ ≡ read (ahead reader) caps places .places
+
+-- the contract of `new`: the file that is lent, and place 0
+abbrev pub New : RefT (List ℕ) → Reader → Type 0
+New file r = (r .file ≡ file) × (r .at ≡ 0)

@@ -1,7 +1,6 @@
 // The reader of job files in the form that 01 names: a struct that holds the file and a place in it, and an answer that holds the
 // card bytes as a part of the file. Thin functions over the covered ones of `jobfile`.
-ghost use mathlib.Core.Path.{_≡_};
-ghost use Rattle.jobreader.specs.Reading.{Stepped, Next, JobRead};
+ghost use Rattle.jobreader.specs.Reading.{Stepped, Next, JobRead, New};
 use answers::Answer;
 use jobfile::Numeral;
 
@@ -17,12 +16,14 @@ pub struct Step {
     pub at: usize,
 }
 
-// What the file reader gives: N, B, S, and the card bytes as a part of the file, empty on a refusal.
+// What the file reader gives: N, B, S, how far behind the reader's place the card bytes begin, and these as a part of the file, empty on a
+// refusal.
 pub struct JobFile<'a> {
     pub answer: Answer,
     pub racks: usize,
     pub bytes: usize,
     pub slots: usize,
+    pub place: usize,
     pub cards: &'a [u8],
 }
 
@@ -39,7 +40,7 @@ pub fn step_at(file: &[u8], at: usize) -> Step
 
 // A reader at the start of a file.
 pub fn new<'a>(file: &'a [u8]) -> Reader<'a>
-    ensures { λ r. ⌜ (r .file ≡ file .entry) × (r .at ≡ 0) ⌝ }
+    ensures { λ r. ⌜ New (file .entry) r ⌝ }
 {
     Reader { file, at: 0 }
 }
@@ -65,6 +66,7 @@ pub fn read_job<'a>(r: Reader<'a>, caps: &mut [u16], places: &mut [u16]) -> JobF
         racks: found.racks,
         bytes: found.bytes,
         slots: found.slots,
+        place: found.place,
         cards: jobfile::card_bytes(file, found),
     }
 }

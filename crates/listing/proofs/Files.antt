@@ -15,7 +15,7 @@ use Rattle.racks.specs.Numbers.{cardChecks, tooShort}
 use Rattle.answers.specs.Answers.{answer, noCounts}
 use Rattle.racks.proofs.LegalTable.{spared-caps}
 use Rattle.moves.specs.Moves.{held}
-use Rattle.copies.proofs.Writing.{take-front}
+use Rattle.counting.proofs.Stores.{take-front}
 use Rattle.tables.proofs.Tables.{cards-pass}
 use Rattle.jobfile.specs.File.{readM, readEntries, fileRacks, fileBytes, filePlaces, fileCards, fileChecks}
 use Rattle.jobfile.specs.Answers.{cardsOf, doneFile}

@@ -1,5 +1,6 @@
 -- What *shelve* prints. Assumes nothing: these are definitions.
 use mathlib.Core.List.{List, [], _∷_}
+use mathlib.Core.Path.{_≡_}
 use Prim.Native.Nat.{ℕ}
 use lib.Dec.{ltb}
 use lib.ListN.{length}
@@ -52,3 +53,7 @@ handedOver out lent =
 -- **The listing as a call.** A text that says `refused` is written like any other
 unfoldable pub printed : List ℕ → List ℕ → Printed
 printed file lent = handedOver (listing file) lent
+
+-- the contract of `list_job`: what it gives, and the lent buffer at exit
+abbrev pub ListJob : List ℕ → List ℕ → TextAnswer → List ℕ → Type 0
+ListJob file lent r lent′ = printedOf r lent′ ≡ printed file lent

@@ -1,4 +1,4 @@
--- What a list of moves does to the table, each allowed when its turn comes; pairs that are allowed and apart are such a list. Assumes nothing.
+-- What a list of moves does to the table, each to a free slot or allowed when its turn comes; pairs that are allowed and apart are such a list. Assumes nothing.
 use mathlib.Core.Path.{_≡_, refl, ap, sym, _∙_}
 use mathlib.Core.Logic.{_≢_}
 use mathlib.Core.List.{List, [], _∷_, _++_}
@@ -19,8 +19,9 @@ use Rattle.racks.specs.Racks.{Rack, slots, rackOf}
 use Rattle.racks.specs.Table.{rackTo, aways, owes, names}
 use Rattle.racks.specs.parts.Legal.{Legal}
 use Rattle.plans.specs.Allowed.{Allowed, Apart}
-use Rattle.moves.specs.Turns.{InTurn}
+use Rattle.moves.specs.Turns.{InTurn, Moving}
 use Rattle.moves.specs.Turns.InTurn.{stop, next}
+use Rattle.moves.specs.Turns.Moving.{still, move}
 use Rattle.moves.specs.Moves.{movedPlaces, movedCards, carriedPlaces, carriedCards, between, Held, carried}
 use Rattle.moves.proofs.Blocks.{length-moved-cards}
 use Rattle.moves.proofs.Moved.{legal-moved, stands-moved, allowed-free, aways-moved, owes-moved, owes-other, allowed-kept}
@@ -66,18 +67,27 @@ module _ {racks : List Rack} where
   in-turn-append stop u = u
   in-turn-append (next a t) u = next a (in-turn-append t u)
 
+  -- moves that are allowed in turn are moves to free slots
+  pub in-turn-moving : {places : List ℕ} {ms : List Pair} → InTurn racks places ms → Moving racks places ms
+  in-turn-moving stop = still
+  in-turn-moving (next a t) = move (allowed-free a) (in-turn-moving t)
+
   -- the table stays legal
-  pub legal-carried : {places : List ℕ} {ms : List Pair} → Legal racks places → InTurn racks places ms → Legal racks (carriedPlaces ms places)
+  pub legal-carried : {places : List ℕ} {ms : List Pair} → Legal racks places → Moving racks places ms → Legal racks (carriedPlaces ms places)
   unfolding carriedPlaces
-  legal-carried l stop = l
-  legal-carried l (next a t) = legal-carried (legal-moved l (allowed-free a)) t
+  legal-carried l still = l
+  legal-carried l (move f t) = legal-carried (legal-moved l f) t
+
+  -- so after allowed moves
+  pub legal-in-turn : {places : List ℕ} {ms : List Pair} → Legal racks places → InTurn racks places ms → Legal racks (carriedPlaces ms places)
+  legal-in-turn l t = legal-carried l (in-turn-moving t)
 
   -- every destination stands in the table as often as before
-  pub stands-carried : {places : List ℕ} {ms : List Pair} → Legal racks places → InTurn racks places ms → (d : ℕ) → d ≢ FREE
+  pub stands-carried : {places : List ℕ} {ms : List Pair} → Legal racks places → Moving racks places ms → (d : ℕ) → d ≢ FREE
       → count (slots racks) (names places d) ≡ count (slots racks) (names (carriedPlaces ms places) d)
   unfolding carriedPlaces
-  stands-carried l stop d n = refl
-  stands-carried l (next a t) d n = stands-moved l (allowed-free a) d n ∙ stands-carried (legal-moved l (allowed-free a)) t d n
+  stands-carried l still d n = refl
+  stands-carried l (move f t) d n = stands-moved l f d n ∙ stands-carried (legal-moved l f) t d n
 
   -- each move brings one card to its rack
   pub aways-carried : {places : List ℕ} {ms : List Pair} → Legal racks places → InTurn racks places ms → aways racks places ≡ length ms + aways racks (carriedPlaces ms places)

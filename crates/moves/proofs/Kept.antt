@@ -13,11 +13,11 @@ use Rattle.racks.specs.Table.{dest, free}
 use Rattle.racks.specs.parts.Legal.{Legal}
 use Rattle.moves.specs.Blocks.{block}
 use Rattle.moves.specs.Moves.{movedPlaces, movedCards, carriedPlaces, carriedCards}
-use Rattle.moves.proofs.Pairs.{ToFree, free-ends}
-use Rattle.moves.proofs.Moved.{moved-places, legal-moved, allowed-free}
+use Rattle.moves.proofs.Pairs.{free-ends}
+use Rattle.moves.proofs.Moved.{moved-places, legal-moved}
 use Rattle.moves.proofs.Blocks.{moved-cards, length-moved-cards}
-use Rattle.moves.specs.Turns.{InTurn}
-use Rattle.moves.specs.Turns.InTurn.{stop, next}
+use Rattle.moves.specs.Turns.{ToFree, Moving}
+use Rattle.moves.specs.Turns.Moving.{still, move}
 
 -- the card that is bound for slot d lies in a slot, with these bytes
 pub record Card (racks : List Rack) (b : ℕ) (places cards : List ℕ) (d : ℕ) (bytes : List ℕ) : Type 0 where
@@ -49,10 +49,9 @@ module _ {racks : List Rack} {b d : ℕ} (card : d ≢ FREE) {bytes : List ℕ} 
         ]
       ]
 
-  -- any list of moves, each allowed when its turn comes
-  pub card-carried : {places cards : List ℕ} {ms : List Pair} → Legal racks places → length cards ≡ slots racks * b → InTurn racks places ms
+  -- any list of moves, each to a slot that is free when its turn comes
+  pub card-carried : {places cards : List ℕ} {ms : List Pair} → Legal racks places → length cards ≡ slots racks * b → Moving racks places ms
       → Card racks b places cards d bytes → Card racks b (carriedPlaces ms places) (carriedCards b ms cards) d bytes
   unfolding carriedPlaces carriedCards
-  card-carried l long stop c = c
-  card-carried {cards} l long (next {m} a t) c =
-      card-carried (legal-moved l (allowed-free a)) (length-moved-cards b m cards ∙ long) t (card-moved l long (allowed-free a) c)
+  card-carried l long still c = c
+  card-carried {cards} l long (move {m} f t) c = card-carried (legal-moved l f) (length-moved-cards b m cards ∙ long) t (card-moved l long f c)

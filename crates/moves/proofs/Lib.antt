@@ -5,6 +5,7 @@ pub mod Blocks
 pub mod CardLoops
 pub mod Carries
 pub mod Carry
+pub mod Rooms
 pub mod Phases
 pub mod Order
 pub mod FirstFit

@@ -22,7 +22,8 @@ use Rattle.racks.specs.parts.Legal.{Legal}
 use Rattle.racks.proofs.Away.{away-held, away-off}
 use Rattle.plans.specs.Allowed.{Allowed, Apart}
 use Rattle.moves.specs.Moves.{movedPlaces}
-use Rattle.moves.proofs.Pairs.{Moved, Ends, ToFree, free-ends, free-disjoint}
+use Rattle.moves.specs.Turns.{ToFree}
+use Rattle.moves.proofs.Pairs.{Moved, Ends, free-ends, free-disjoint}
 
 -- a move keeps the length of the table
 pub length-moved : (m : Pair) (places : List ℕ) → length (movedPlaces m places) ≡ length places

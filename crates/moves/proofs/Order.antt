@@ -11,8 +11,11 @@ use Rattle.counting.proofs.Every.{all-map, all-both}
 use Rattle.counting.specs.Every.All.{more, none}
 use Rattle.counting.specs.Every.Pairwise.{end, link}
 use Rattle.racks.specs.Racks.{Rack, slots}
+use Rattle.racks.specs.parts.Legal.{Legal}
 use Rattle.plans.specs.Allowed.{Allowed, Apart}
 use Rattle.moves.specs.Moves.{movedPlaces, movedCards, carriedPlaces, carriedCards, Held, carried, Disjoint}
+use Rattle.moves.specs.Turns.{InTurn}
+use Rattle.moves.proofs.Carry.{pairs-in-turn}
 use Rattle.moves.proofs.Pairs.{Moved, Ends, disjoint-sym, free-ends, free-disjoint}
 use Rattle.moves.proofs.Moved.{allowed-free, length-moved, moved-places}
 use Rattle.moves.proofs.Blocks.{length-moved-cards, moved-cards, blocks-ext}
@@ -102,3 +105,13 @@ disjoint-pairs (link d r) (more a rest) =
 pub any-order : {racks : List Rack} {b : ℕ} {h : Held} {ms ns : List Pair} → Sized (slots racks) b h → Pairwise Apart ms → All (Allowed racks (h .places)) ms
     → List·Permᴰ ms ns → carried b ms h ≡ carried b ns h
 any-order {h} s d a r = any-order-of r (all-map (λ m x. free-ends (allowed-free x)) a) (disjoint-pairs d a) h s
+
+-- pairs that share no end are apart
+apart-pairs : {ms : List Pair} → Pairwise Disjoint ms → Pairwise Apart ms
+apart-pairs end = end
+apart-pairs (link d r) = link (all-map (λ n x. (λ e. x .from-from (sym e), λ e. x .to-to (sym e))) d) (apart-pairs r)
+
+-- in any order each is allowed when its turn comes
+pub perm-in-turn : {racks : List Rack} {places : List ℕ} {ms ns : List Pair} → Legal racks places → Pairwise Apart ms → All (Allowed racks places) ms
+    → List·Permᴰ ms ns → InTurn racks places ns
+perm-in-turn l d a r = pairs-in-turn l (apart-pairs (pairwise-perm r (disjoint-pairs d a))) (all-perm r a)

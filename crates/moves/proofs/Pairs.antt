@@ -1,15 +1,14 @@
 -- The ends of pairs, and how what slots hold differs by a move. Assumes nothing.
 use mathlib.Core.Path.{_≡_, sym}
-use mathlib.Core.Bool.{true, false}
 use mathlib.Core.Logic.{_≢_}
 use mathlib.Core.List.{List}
 use Prim.Native.Nat.{ℕ, _<_}
 use Rattle.counting.specs.Lists.{Pair}
 use Rattle.counting.proofs.Tests.{no-way}
 use Rattle.racks.specs.Racks.{Rack, slots}
-use Rattle.racks.specs.Table.{free}
 use Rattle.plans.specs.Allowed.{Apart}
 use Rattle.moves.specs.Moves.{Disjoint}
+use Rattle.moves.specs.Turns.{ToFree}
 
 -- what slots hold before and after a move: the target has what the source had, the source has z, any other slot what it had
 pub record Moved {A : Type 0} (z : A) (m : Pair) (before after : ℕ → A) : Type 0 where
@@ -32,13 +31,7 @@ disjoint-sym d = record {
   to-to = λ e. d .to-to (sym e);
 }
 
--- a card may go to any free slot: both are slots, the source has a card, the target is free
-pub record ToFree (racks : List Rack) (places : List ℕ) (m : Pair) : Type 0 where
-  pub from-lt : m .0 < slots racks
-  pub to-lt : m .1 < slots racks
-  pub is-held : free places (m .0) ≡ false
-  pub is-free : free places (m .1) ≡ true
-
+-- a card to any free slot
 module _ {racks : List Rack} {places : List ℕ} {m : Pair} (f : ToFree racks places m) where
   -- its ends are two slots
   pub free-ends : Ends (slots racks) m

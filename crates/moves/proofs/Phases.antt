@@ -22,7 +22,7 @@ use Rattle.plans.specs.Allowed.{Allowed, Apart}
 use Rattle.moves.specs.Moves.{carriedPlaces}
 use Rattle.moves.specs.Phases.{phasesFrom, phases, budget}
 use Rattle.moves.specs.Turns.{InTurn}
-use Rattle.moves.proofs.Carry.{pairs-in-turn, in-turn-take, in-turn-append, legal-carried, aways-carried, places-append}
+use Rattle.moves.proofs.Carry.{pairs-in-turn, in-turn-take, in-turn-append, legal-in-turn, aways-carried, places-append}
 use Rattle.moves.specs.Turns.InTurn.{stop}
 
 module _ (racks : List Rack) (places : List ℕ) where
@@ -91,7 +91,7 @@ module _ {racks : List Rack} (planner : Planner racks) where
   unfolding phasesFrom
   run-from zero {places} l h = by-test (someAway racks places) (λ e. absurd (omega (arith, aways-some racks places e))) (λ e. over e)
   run-from (suc n) {places} l h = by-test (someAway racks places)
-      (λ e. rw e (phase e refl (run-from n (legal-carried l (plan-in-turn l)) (omega (arith, aways-carried l (plan-in-turn l), planner .has-pair places l e)))))
+      (λ e. rw e (phase e refl (run-from n (legal-in-turn l (plan-in-turn l)) (omega (arith, aways-carried l (plan-in-turn l), planner .has-pair places l e)))))
       (λ e. rw e (over e))
 
   -- the phases are a run
@@ -105,7 +105,7 @@ module _ {racks : List Rack} (planner : Planner racks) where
   run-in-turn (over e) l = stop
   run-in-turn (phase {places} e p r) l =
       let t = rw (← p) at (plan-in-turn l) in
-      in-turn-append t (run-in-turn r (legal-carried l t))
+      in-turn-append t (run-in-turn r (legal-in-turn l t))
 
   -- each of its plans has a pair
   run-pairs : {places : List ℕ} {r : List (List Pair)} → Run racks places r → Legal racks places → All HasPair r
@@ -113,7 +113,7 @@ module _ {racks : List Rack} (planner : Planner racks) where
   run-pairs (phase {places} e p r) l =
       let t = rw (← p) at (plan-in-turn l) in
       let h = rw (← p) at (planner .has-pair places l e) in
-      more h (run-pairs r (legal-carried l t))
+      more h (run-pairs r (legal-in-turn l t))
 
   module _ {places : List ℕ} (l : Legal racks places) where
     -- more phases than cards are away change nothing: there are none
@@ -122,7 +122,7 @@ module _ {racks : List Rack} (planner : Planner racks) where
 
     -- while a card is away: a plan, and the phases of the table that it leaves
     pub phases-step : someAway racks places ≡ true → phases racks places ≡ plan racks places ∷ phases racks (carriedPlaces (plan racks places) places)
-    phases-step e = run-once (phases-run l) (phase e refl (phases-run (legal-carried l (plan-in-turn l))))
+    phases-step e = run-once (phases-run l) (phase e refl (phases-run (legal-in-turn l (plan-in-turn l))))
 
     -- every plan of the phases has a pair
     pub phases-pairs : All HasPair (phases racks places)
@@ -138,7 +138,7 @@ module _ {racks : List Rack} (planner : Planner racks) where
 
     -- after all phases the table is legal
     pub phases-legal : Legal racks (carriedPlaces (join (phases racks places)) places)
-    phases-legal = legal-carried l phases-in-turn
+    phases-legal = legal-in-turn l phases-in-turn
 
     -- the moves of all phases are as many as cards are away
     pub phases-moves : length (join (phases racks places)) ≡ aways racks places
@@ -152,7 +152,7 @@ module _ {racks : List Rack} (planner : Planner racks) where
 
       -- after the moves of a budget the table is legal
       pub budget-legal : Legal racks (carriedPlaces (budget racks k places) places)
-      budget-legal = legal-carried l budget-in-turn
+      budget-legal = legal-in-turn l budget-in-turn
 
       -- the moves are the smaller of the budget and the cards away
       pub budget-length : length (budget racks k places) ≡ min k (aways racks places)

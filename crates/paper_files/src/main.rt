@@ -6,7 +6,14 @@ mod say;
 // The job at the reader's place.
 fn say_job_at<'a>(r: Reader<'a>, caps: &mut [u16], places: &mut [u16]) {
     let job = jobreader::read_job(r, caps, places);
-    say::say_job(job.answer, job.racks, job.bytes, job.slots, job.cards);
+    say::say_job(
+        job.answer,
+        job.racks,
+        job.bytes,
+        job.slots,
+        job.place,
+        job.cards,
+    );
 }
 
 // The job from the start of a file.

@@ -23,8 +23,15 @@ pub fn say_numerals(first: Numeral, second: Numeral) {
     io::write_all(1, b", ");
 }
 
-// N, B, S and the card bytes.
-pub fn say_job(answer: Answer, racks: usize, bytes: usize, slots: usize, cards: &[u8]) {
+// N, B, S, where the card bytes begin, and these.
+pub fn say_job(
+    answer: Answer,
+    racks: usize,
+    bytes: usize,
+    slots: usize,
+    place: usize,
+    cards: &[u8],
+) {
     saying::parts::say_answer(b"job", answer);
     io::write_all(1, b" N ");
     io::print_decimal(1, racks as u64);
@@ -32,5 +39,7 @@ pub fn say_job(answer: Answer, racks: usize, bytes: usize, slots: usize, cards: 
     io::print_decimal(1, bytes as u64);
     io::write_all(1, b" S ");
     io::print_decimal(1, slots as u64);
+    io::write_all(1, b" at ");
+    io::print_decimal(1, place as u64);
     saying::parts::say_cards(cards);
 }

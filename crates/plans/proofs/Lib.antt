@@ -1,3 +1,4 @@
 pub mod Grants
 pub mod Plans
 pub mod Possible
+pub mod Totals

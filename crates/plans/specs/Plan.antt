@@ -1,16 +1,18 @@
 -- "Phase plan." Assumes nothing: these are definitions.
 use mathlib.Core.Bool.{Bool, not}
 use mathlib.Core.List.{List, [], _∷_, _++_}
+use mathlib.Core.Path.{_≡_}
 use Prim.Native.Nat.{ℕ, _-_, min}
 use lib.Dec.{eqb}
 use lib.ListN.{length, take}
 use Rattle.counting.specs.Count.{count, select}
 use Rattle.counting.specs.Lists.{Pair, tabulate, join, pairUp, flat}
 use Rattle.counting.specs.Checks.{Check, first}
-use Rattle.racks.specs.Racks.{Rack, slots}
+use Rattle.answers.specs.declared.Answer.{Answer}
+use Rattle.racks.specs.Racks.{Rack, slots, ofCaps}
 use Rattle.racks.specs.Table.{bound, owes, freeOn}
 use Rattle.racks.specs.Numbers.{tableChecks, tooShort}
-use Rattle.answers.specs.Answers.{movesOf, answer, written, Listed}
+use Rattle.answers.specs.Answers.{movesOf, answer, written, Listed, listedOf}
 
 -- rack i is another than p
 unfoldable pub other : ℕ → ℕ → Bool
@@ -61,3 +63,7 @@ planned racks places lent =
     let n = first (planChecks racks places lent) in
     let pairs = plan racks places in
     record { answer = answer n (movesOf (length pairs)); lent = written n lent (flat pairs) }
+
+-- the contract of `phase_plan`: what it gives, and the lent list at exit
+abbrev pub PhasePlan : List ℕ → List ℕ → List ℕ → Answer → List ℕ → Type 0
+PhasePlan caps places lent r lent′ = listedOf r lent′ ≡ planned (ofCaps caps) places lent

@@ -1,12 +1,13 @@
 -- "Whole run." Assumes nothing: these are definitions.
 use mathlib.Core.Bool.{Bool}
 use mathlib.Core.List.{List}
+use mathlib.Core.Path.{_≡_}
 use Prim.Native.Nat.{ℕ}
 use lib.Dec.{ltb}
 use lib.ListN.{length}
 use Rattle.counting.specs.Lists.{Pair, join, matching}
 use Rattle.counting.specs.Checks.{first}
-use Rattle.racks.specs.Racks.{Rack}
+use Rattle.racks.specs.Racks.{Rack, ofCaps}
 use Rattle.racks.specs.Numbers.{cardChecks}
 use Rattle.answers.specs.declared.Tally.{Tally}
 use Rattle.moves.specs.Moves.{Held, carried, Outcome, outcome}
@@ -34,3 +35,7 @@ counts racks b h =
 -- **Whole run.** Phases until nothing is away, then the shuffle
 unfoldable pub ran : List Rack → ℕ → Held → Outcome
 ran racks b h = outcome (first (cardChecks racks b (h .places) (h .cards))) (counts racks b h) (settledHeld racks b (gathered racks b h)) h
+
+-- the contract of `whole_run`: what it gives, and the table and the cards at exit
+abbrev pub WholeRun : List ℕ → ℕ → Held → Outcome → Type 0
+WholeRun caps b h r = r ≡ ran (ofCaps caps) b h

@@ -4,7 +4,7 @@ use mathlib.Core.List.{List}
 use Prim.Native.Nat.{ℕ, _≤_}
 use native.Mathlib.Omega.{arith}
 use lib.ListN.{length, take}
-use Rattle.copies.proofs.Writing.{take-front}
+use Rattle.counting.proofs.Stores.{take-front}
 use Rattle.texts.specs.parts.Writing.{Wrote}
 
 -- text at the front of the buffer is what stands before the position behind it

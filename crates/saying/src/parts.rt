@@ -80,3 +80,10 @@ pub fn say_outcome(name: &[u8], answer: Answer, places: &[u16], cards: &[u8]) {
     say_cards(cards);
     io::write_all(1, b"\n");
 }
+
+// The same, with the first eight bytes of the cards in decimal.
+pub fn say_left(name: &[u8], answer: Answer, places: &[u16], cards: &[u8]) {
+    say_answer(name, answer);
+    say_numbers(b" places", places);
+    say_bytes(cards, 8);
+}

@@ -1,21 +1,16 @@
 // Seineflute for callers from C and Rust: every public call with C's calling convention, thin over the layers.
 // The contracts are the layers' own, with the answer read from the numbers that C is given.
-ghost use mathlib.Core.Path.{_≡_};
-ghost use Rattle.racks.specs.Racks.{ofCaps};
-ghost use Rattle.answers.specs.Answers.{listedOf};
-ghost use Rattle.tables.specs.Check.{checked};
-ghost use Rattle.slots.specs.Slots.{asked};
-ghost use Rattle.plans.specs.Plan.{planned};
-ghost use Rattle.moves.specs.Moves.{moved, held, outcomeOf};
-ghost use Rattle.moves.specs.Phases.{budgeted};
-ghost use Rattle.factors.specs.Copies.{copied};
-ghost use Rattle.shuffle.specs.Shuffle.{shuffled};
-ghost use Rattle.runs.specs.Run.{ran};
-ghost use Rattle.jobfile.specs.File.{read};
-ghost use Rattle.jobfile.specs.Answers.{readOf};
-ghost use Rattle.listing.specs.Listing.{printed, printedOf};
-ghost use Rattle.flat.specs.Flat.{answerOf, slotNumbers, fileOf, textOf};
-ghost use Rattle.seineflute.specs.Limits.{limits};
+ghost use Rattle.tables.specs.Check.{CheckTable};
+ghost use Rattle.plans.specs.Plan.{PhasePlan};
+ghost use Rattle.moves.specs.Moves.{OneMove, held, outcomeOf};
+ghost use Rattle.moves.specs.Phases.{BudgetedMoves};
+ghost use Rattle.factors.specs.Copies.{CopyList};
+ghost use Rattle.shuffle.specs.Shuffle.{ShuffleCards};
+ghost use Rattle.runs.specs.Run.{WholeRun};
+ghost use Rattle.jobfile.specs.Answers.{ReadFile};
+ghost use Rattle.listing.specs.Listing.{ListJob};
+ghost use Rattle.flat.specs.Flat.{answerOf, fileOf, textOf};
+ghost use Rattle.seineflute.specs.Contracts.{LimitsGiven, SlotNumbers};
 use flat::Answer;
 use flat::FileAnswer;
 use flat::ListingAnswer;
@@ -41,7 +36,7 @@ pub struct Limits {
 // Limits and marks.
 #[no_mangle]
 pub extern "C" fn seineflute_limits() -> Limits
-    ensures { λ r. ⌜ r ≡ limits ⌝ }
+    ensures { λ r. ⌜ LimitsGiven r ⌝ }
 {
     Limits {
         racks: Job::MAX_RACKS,
@@ -59,7 +54,7 @@ pub extern "C" fn seineflute_limits() -> Limits
 // Table check.
 #[no_mangle]
 pub extern "C" fn seineflute_check_table(caps: &[u16], places: &[u16]) -> Answer
-    ensures { λ r. ⌜ answerOf r ≡ checked (ofCaps (now (caps .entry))) (now (places .entry)) ⌝ }
+    ensures { λ r. ⌜ CheckTable (now (caps .entry)) (now (places .entry)) (answerOf r) ⌝ }
 {
     let answer = tables::check_table(caps, places);
     flat::parts::numbers_of(answer)
@@ -68,7 +63,7 @@ pub extern "C" fn seineflute_check_table(caps: &[u16], places: &[u16]) -> Answer
 // Slot question.
 #[no_mangle]
 pub extern "C" fn seineflute_slot_question(caps: &[u16], places: &[u16], slot: usize) -> SlotAnswer
-    ensures { λ r. ⌜ r ≡ slotNumbers (asked (ofCaps (now (caps .entry))) (now (places .entry)) slot) ⌝ }
+    ensures { λ r. ⌜ SlotNumbers (now (caps .entry)) (now (places .entry)) slot r ⌝ }
 {
     let found = slots::slot_question(caps, places, slot);
     flat::parts::slot_numbers(found)
@@ -77,7 +72,7 @@ pub extern "C" fn seineflute_slot_question(caps: &[u16], places: &[u16], slot: u
 // Phase plan.
 #[no_mangle]
 pub extern "C" fn seineflute_phase_plan(caps: &[u16], places: &[u16], lent: &mut [u16]) -> Answer
-    ensures { λ r. ⌜ listedOf (answerOf r) (now (lent .exit)) ≡ planned (ofCaps (now (caps .entry))) (now (places .entry)) (now (lent .entry)) ⌝ }
+    ensures { λ r. ⌜ PhasePlan (now (caps .entry)) (now (places .entry)) (now (lent .entry)) (answerOf r) (now (lent .exit)) ⌝ }
 {
     let answer = planner::phase_plan(caps, places, lent);
     flat::parts::numbers_of(answer)
@@ -93,7 +88,7 @@ pub extern "C" fn seineflute_one_move(
     from: usize,
     to: usize,
 ) -> Answer
-    ensures { λ r. ⌜ outcomeOf (answerOf r) (now (places .exit)) (now (cards .exit)) ≡ moved (ofCaps (now (caps .entry))) b (held (now (places .entry)) (now (cards .entry))) (from, to) ⌝ }
+    ensures { λ r. ⌜ OneMove (now (caps .entry)) b (held (now (places .entry)) (now (cards .entry))) (from, to) (outcomeOf (answerOf r) (now (places .exit)) (now (cards .exit))) ⌝ }
 {
     let answer = moves::one_move(caps, b, places, cards, from, to);
     flat::parts::numbers_of(answer)
@@ -108,7 +103,7 @@ pub extern "C" fn seineflute_budgeted_moves(
     cards: &mut [u8],
     k: usize,
 ) -> Answer
-    ensures { λ r. ⌜ outcomeOf (answerOf r) (now (places .exit)) (now (cards .exit)) ≡ budgeted (ofCaps (now (caps .entry))) b (held (now (places .entry)) (now (cards .entry))) k ⌝ }
+    ensures { λ r. ⌜ BudgetedMoves (now (caps .entry)) b (held (now (places .entry)) (now (cards .entry))) k (outcomeOf (answerOf r) (now (places .exit)) (now (cards .exit))) ⌝ }
 {
     let answer = budgets::budgeted_moves(caps, b, places, cards, k);
     flat::parts::numbers_of(answer)
@@ -117,7 +112,7 @@ pub extern "C" fn seineflute_budgeted_moves(
 // Copy list.
 #[no_mangle]
 pub extern "C" fn seineflute_copy_list(caps: &[u16], places: &[u16], lent: &mut [u16]) -> Answer
-    ensures { λ r. ⌜ listedOf (answerOf r) (now (lent .exit)) ≡ copied (ofCaps (now (caps .entry))) (now (places .entry)) (now (lent .entry)) ⌝ }
+    ensures { λ r. ⌜ CopyList (now (caps .entry)) (now (places .entry)) (now (lent .entry)) (answerOf r) (now (lent .exit)) ⌝ }
 {
     let answer = copies::copy_list(caps, places, lent);
     flat::parts::numbers_of(answer)
@@ -131,7 +126,7 @@ pub extern "C" fn seineflute_shuffle_cards(
     places: &mut [u16],
     cards: &mut [u8],
 ) -> Answer
-    ensures { λ r. ⌜ outcomeOf (answerOf r) (now (places .exit)) (now (cards .exit)) ≡ shuffled (ofCaps (now (caps .entry))) b (held (now (places .entry)) (now (cards .entry))) ⌝ }
+    ensures { λ r. ⌜ ShuffleCards (now (caps .entry)) b (held (now (places .entry)) (now (cards .entry))) (outcomeOf (answerOf r) (now (places .exit)) (now (cards .exit))) ⌝ }
 {
     let answer = shuffle::shuffle_cards(caps, b, places, cards);
     flat::parts::numbers_of(answer)
@@ -145,7 +140,7 @@ pub extern "C" fn seineflute_whole_run(
     places: &mut [u16],
     cards: &mut [u8],
 ) -> Answer
-    ensures { λ r. ⌜ outcomeOf (answerOf r) (now (places .exit)) (now (cards .exit)) ≡ ran (ofCaps (now (caps .entry))) b (held (now (places .entry)) (now (cards .entry))) ⌝ }
+    ensures { λ r. ⌜ WholeRun (now (caps .entry)) b (held (now (places .entry)) (now (cards .entry))) (outcomeOf (answerOf r) (now (places .exit)) (now (cards .exit))) ⌝ }
 {
     let answer = runs::whole_run(caps, b, places, cards);
     flat::parts::numbers_of(answer)
@@ -158,7 +153,7 @@ pub extern "C" fn seineflute_read_file(
     caps: &mut [u16],
     places: &mut [u16],
 ) -> FileAnswer
-    ensures { λ r. ⌜ readOf (fileOf r) (now (caps .exit)) (now (places .exit)) (now (file .entry)) ≡ read (now (file .entry)) (now (caps .entry)) (now (places .entry)) ⌝ }
+    ensures { λ r. ⌜ ReadFile (now (file .entry)) (now (caps .entry)) (now (places .entry)) (fileOf r) (now (caps .exit)) (now (places .exit)) ⌝ }
 {
     let found = jobfile::read_file(file, caps, places);
     flat::parts::file_numbers(found)
@@ -167,7 +162,7 @@ pub extern "C" fn seineflute_read_file(
 // The listing.
 #[no_mangle]
 pub extern "C" fn seineflute_list_job(file: &[u8], out: &mut [u8]) -> ListingAnswer
-    ensures { λ r. ⌜ printedOf (textOf r) (now (out .exit)) ≡ printed (now (file .entry)) (now (out .entry)) ⌝ }
+    ensures { λ r. ⌜ ListJob (now (file .entry)) (now (out .entry)) (textOf r) (now (out .exit)) ⌝ }
 {
     let found = listing::list_job(file, out);
     flat::parts::text_numbers(found)

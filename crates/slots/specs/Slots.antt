@@ -1,9 +1,10 @@
 -- "Slot question." Assumes nothing: these are definitions.
 use mathlib.Core.List.{List, [], _∷_, _++_}
+use mathlib.Core.Path.{_≡_}
 use Prim.Native.Nat.{ℕ}
 use Rattle.counting.specs.Tests.{pick}
 use Rattle.counting.specs.Checks.{Check, first, done}
-use Rattle.racks.specs.Racks.{Rack, isUser}
+use Rattle.racks.specs.Racks.{Rack, isUser, ofCaps}
 use Rattle.racks.specs.Table.{free, settled, away, rackTo}
 use Rattle.racks.specs.Numbers.{tableChecks, noSlot}
 use Rattle.answers.specs.Answers.{answer, noCounts}
@@ -42,3 +43,7 @@ unfoldable pub asked : List Rack → List ℕ → ℕ → SlotAnswer
 asked racks places g =
     let n = first (slotChecks racks places g) in
     record { answer = answer n noCounts; slot = pick (done n) (record { kind = kindOf racks g; state = stateOf racks places g }) nothing }
+
+-- the contract of `slot_question`: what it gives
+abbrev pub SlotQuestion : List ℕ → List ℕ → ℕ → SlotAnswer → Type 0
+SlotQuestion caps places g r = r ≡ asked (ofCaps caps) places g

@@ -1,7 +1,5 @@
 // The slot question.
-ghost use mathlib.Core.Path.{_≡_};
-ghost use Rattle.racks.specs.Racks.{ofCaps};
-ghost use Rattle.slots.specs.Slots.{asked};
+ghost use Rattle.slots.specs.Slots.{SlotQuestion};
 use answers::Answer;
 use racks::Job;
 
@@ -35,7 +33,7 @@ pub struct SlotAnswer {
 
 // Slot question: what slot g is, and what stands in it.
 pub fn slot_question(caps: &[u16], places: &[u16], g: usize) -> SlotAnswer
-    ensures { λ r. ⌜ r ≡ asked (ofCaps (now (caps .entry))) (now (places .entry)) g ⌝ }
+    ensures { λ r. ⌜ SlotQuestion (now (caps .entry)) (now (places .entry)) g r ⌝ }
 {
     let job = Job::of(caps);
     parts::ask_job(job, places, g)

@@ -1,7 +1,5 @@
 // The table check.
-ghost use mathlib.Core.Path.{_≡_};
-ghost use Rattle.racks.specs.Racks.{ofCaps};
-ghost use Rattle.tables.specs.Check.{checked};
+ghost use Rattle.tables.specs.Check.{CheckTable};
 use answers::Answer;
 use racks::Job;
 
@@ -9,7 +7,7 @@ pub mod parts;
 
 // Table check: 0, 1, 3, 4, 5 or 6.
 pub fn check_table(caps: &[u16], places: &[u16]) -> Answer
-    ensures { λ r. ⌜ r ≡ checked (ofCaps (now (caps .entry))) (now (places .entry)) ⌝ }
+    ensures { λ r. ⌜ CheckTable (now (caps .entry)) (now (places .entry)) r ⌝ }
 {
     let job = Job::of(caps);
     parts::check_job(job, places)

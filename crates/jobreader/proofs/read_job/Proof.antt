@@ -190,10 +190,10 @@ module _ {M : Type 1} (𝓤 : URA M) (H : Heap 𝓤) (A : Atoms 𝓤) (W : Given
   answer-is h u is = LL.owed F.the-type F′.the-laws h _ is .0
 
   abbrev Fits : FileAnswer → Type 0
-  Fits h = (h .racks < 2 ^ 64) × ((h .bytes < 2 ^ 64) × (h .slots < 2 ^ 64))
+  Fits h = (h .racks < 2 ^ 64) × ((h .bytes < 2 ^ 64) × ((h .slots < 2 ^ 64) × (h .place < 2 ^ 64)))
 
   fits-of : (h : FileAnswer) (u : Val) → Is F.the-row h (u ∷ []) → Fits h
-  fits-of h u is = let fields = LL.owed F.the-type F′.the-laws h _ is in (fields .1 .0 .1, (fields .1 .1 .0 .1, fields .1 .1 .1 .0 .1))
+  fits-of h u is = let fields = LL.owed F.the-type F′.the-laws h _ is in (fields .1 .0 .1, (fields .1 .1 .0 .1, (fields .1 .1 .1 .0 .1, fields .1 .1 .1 .1 .0 .1)))
 
   exits : (s : RefT (List ℕ)) (h : FileAnswer) (r : RefT (List ℕ)) (xs ys : List ℕ) → Ahead s → Fits h → Is An.the-row (h .answer) (LL.val An.the-type An′.the-laws (h .answer) ∷ []) → readOf h xs ys (now s) ≡ read (now s) (z .c .now) (z .p .now) → now r ≡ cardsOf h (now s) → length xs ≡ length (z .c .now) → length ys ≡ length (z .p .now)
       → ent 𝓤 (⋆ 𝓤 H A (Tok 𝓤 z ∷ ‵ Own ∷ ‵ (finally u16 (z .c .name) xs) ∷ ‵ (finally u16 (z .p .name) ys) ∷ ‵ (ShrSlice (named 0) (z .κ) u8 .own r (slice-vals r)) ∷ [])) (Post (J′.lowered (made h r)))
@@ -203,9 +203,9 @@ module _ {M : Type 1} (𝓤 : URA M) (H : Heap 𝓤) (A : Atoms 𝓤) (W : Given
       says ! (job-read d (now s) (z .c .now) (z .p .now) h r xs ys e₀ e e′) $
       frame ! $ nothing ! $ move ! (3 ∷ 0 ∷ []) $ fjoin ! $ move ! (2 ∷ 0 ∷ []) $ fjoin ! $ move ! (1 ∷ 0 ∷ []) $ fjoin ! $ frame ! $
       -- [what the part owns]: what the fields own together is what the struct owns
-      nothing ! $ move ! (1 ∷ 0 ∷ []) $ fjoin ! $ owned ! usize (Is usize) (uint-makes 𝓤 H A W w64) (h .slots) _ (refl, f .1 .1) $ fjoin ! $ owned ! usize (Is usize) (uint-makes 𝓤 H A W w64) (h .bytes) _ (refl, f .1 .0) $ fjoin ! $
+      nothing ! $ move ! (1 ∷ 0 ∷ []) $ fjoin ! $ owned ! usize (Is usize) (uint-makes 𝓤 H A W w64) (h .place) _ (refl, f .1 .1 .1) $ fjoin ! $ owned ! usize (Is usize) (uint-makes 𝓤 H A W w64) (h .slots) _ (refl, f .1 .1 .0) $ fjoin ! $ owned ! usize (Is usize) (uint-makes 𝓤 H A W w64) (h .bytes) _ (refl, f .1 .0) $ fjoin ! $
       owned ! usize (Is usize) (uint-makes 𝓤 H A W w64) (h .racks) _ (refl, f .0) $ fjoin ! $ owned ! An.the-row (Is An.the-row) (LL.makes An.the-type An′.the-plain 𝓤 H A) (h .answer) _ an $ fjoin ! $
-      by ! (own-shut 𝓤 H A W (J.the-type α) (J′.the-laws α) (h .answer, (h .racks, (h .bytes, (h .slots, (r, tt))))))
+      by ! (own-shut 𝓤 H A W (J.the-type α) (J′.the-laws α) (h .answer, (h .racks, (h .bytes, (h .slots, (h .place, (r, tt)))))))
 
   module _ (C : Calls 𝓤 H) (Λ : Loops 𝓤 H) (fm : FmC 𝓤 H (W .laws) C) (known-rests : Triple 𝓤 (C #jobfile·rest-of) (Rests 𝓤 H A mem run)) (known-reads : Triple 𝓤 (C #jobfile·read-file) (Reads 𝓤 H A mem run)) (known-part : Triple 𝓤 (C #jobfile·card-bytes) (Part 𝓤 H A mem run)) where
     walk : Holds (hasTy (T′.mir (named 0)) mach) × WT mach → Room u16 (length (z .c .now)) → Room u16 (length (z .p .now)) → ent 𝓤 (onEntry 𝓤 H A read-job.signature (lfts z) (shares z) (beside z d) (valsBeside z mach)) (WpFn 𝓤 H C Λ code.function (mach ∷ cv z ∷ pv z ∷ []) Post)
@@ -253,8 +253,8 @@ module _ {M : Type 1} (𝓤 : URA M) (H : Heap 𝓤) (A : Atoms 𝓤) (W : Given
         rewrite ! 0 (λ (ws : List Val). ‵ (ShrSlice (named 0) (z .κ) u8 .own r ws)) (shr-slice-tells (named 0) (z .κ) u8 r (u′ ∷ []) is′) refl $
         land ! (from ! (stop !)) (init ! 7 refl (shr-slice-lawful 𝓤 H A W erased (z .κ) u8 .typed r (u′ ∷ []) is′ .0)) $
         rewrite ! 7 (λ (w : Val). ‵ (fat fullShare partTy l₁₂ 0 w)) (ap only (shr-slice-tells (named 0) (z .κ) u8 r (u′ ∷ []) is′)) refl $
-        assigns ! (agg ! (and-then ! (load ! (from ! (fld ! refl (stop !))) (look-in ! 21 (sub ! 0 refl (whole !)))) (and-then ! (load ! (from ! (fld ! refl (stop !))) (look-in ! 21 (sub ! 1 refl (whole !)))) (and-then ! (load ! (from ! (fld ! refl (stop !))) (look-in ! 21 (sub ! 2 refl (whole !)))) (and-then ! (load ! (from ! (fld ! refl (stop !))) (look-in ! 21 (sub ! 3 refl (whole !)))) (and-then ! (load ! (from ! (stop !)) (look ! 7 refl)) (no-more !)))))))
-        (from ! (stop !)) (init ! 31 refl (tt, (LL.lawful An.the-type An′.the-laws 𝓤 H A W .typed (h .answer) _ (answer-is h u is) .0 .1, (record { fits = fits-of h u is .0 }, (record { fits = fits-of h u is .1 .0 }, (record { fits = fits-of h u is .1 .1 }, ((tt, (record { fits = is′ .0 .1 .0 }, tt)), tt))))))) $
+        assigns ! (agg ! (and-then ! (load ! (from ! (fld ! refl (stop !))) (look-in ! 21 (sub ! 0 refl (whole !)))) (and-then ! (load ! (from ! (fld ! refl (stop !))) (look-in ! 21 (sub ! 1 refl (whole !)))) (and-then ! (load ! (from ! (fld ! refl (stop !))) (look-in ! 21 (sub ! 2 refl (whole !)))) (and-then ! (load ! (from ! (fld ! refl (stop !))) (look-in ! 21 (sub ! 3 refl (whole !)))) (and-then ! (load ! (from ! (fld ! refl (stop !))) (look-in ! 21 (sub ! 4 refl (whole !)))) (and-then ! (load ! (from ! (stop !)) (look ! 7 refl)) (no-more !))))))))
+        (from ! (stop !)) (init ! 31 refl (tt, (LL.lawful An.the-type An′.the-laws 𝓤 H A W .typed (h .answer) _ (answer-is h u is) .0 .1, (record { fits = fits-of h u is .0 }, (record { fits = fits-of h u is .1 .0 }, (record { fits = fits-of h u is .1 .1 .0 }, (record { fits = fits-of h u is .1 .1 .1 }, ((tt, (record { fits = is′ .0 .1 .0 }, tt)), tt)))))))) $
         returns ! (look ! 31 refl) $ forget ! 7 refl $ forget ! 9 refl $ forget ! 11 refl $ forget ! 13 refl $ forget ! 15 refl $ forget ! 17 refl $ forget ! 19 refl $ forget ! 21 refl $ forget ! 23 refl $ forget ! 25 refl $ forget ! 27 refl $ forget ! 29 refl $ forget ! 31 refl $
         move ! (31 ∷ 32 ∷ []) $ free1 ! $ move ! (29 ∷ 30 ∷ []) $ free1 ! $ move ! (27 ∷ 28 ∷ []) $ free1 ! $ move ! (25 ∷ 26 ∷ []) $ free1 ! $ move ! (23 ∷ 24 ∷ []) $ free1 ! $ move ! (21 ∷ 22 ∷ []) $ free1 ! $ move ! (19 ∷ 20 ∷ []) $ free1 ! $
         move ! (17 ∷ 18 ∷ []) $ free1 ! $ move ! (15 ∷ 16 ∷ []) $ free1 ! $ move ! (13 ∷ 14 ∷ []) $ free1 ! $ move ! (11 ∷ 12 ∷ []) $ free1 ! $ move ! (9 ∷ 10 ∷ []) $ free1 ! $ move ! (7 ∷ 8 ∷ []) $ free1 ! $ free0 ! $

@@ -121,10 +121,10 @@ module _ {M : Type 1} (𝓤 : URA M) (H : Heap 𝓤) (A : Atoms 𝓤) (W : Given
   low j = J′.lowered j
 
   abbrev vj : JobFile → Values (D .parts)
-  vj j = (j .answer, (j .racks, (j .bytes, (j .slots, (j .cards, tt)))))
+  vj j = (j .answer, (j .racks, (j .bytes, (j .slots, (j .place, (j .cards, tt))))))
 
   abbrev passed : JobFile → Vals says.signature (z .κ, tt)
-  passed j = (LL.val An.the-type An′.the-laws (j .answer) ∷ [], (vint w64 (j .racks) ∷ [], (vint w64 (j .bytes) ∷ [], (vint w64 (j .slots) ∷ [], (sliceVal (j .cards .ptr) (length (j .cards .now)) ∷ [], tt)))))
+  passed j = (LL.val An.the-type An′.the-laws (j .answer) ∷ [], (vint w64 (j .racks) ∷ [], (vint w64 (j .bytes) ∷ [], (vint w64 (j .slots) ∷ [], (vint w64 (j .place) ∷ [], (sliceVal (j .cards .ptr) (length (j .cards .now)) ∷ [], tt))))))
 
   abbrev to-says : JobFile → Says 𝓤 H A mem run .Ghost
   to-says j = (((z .κ, tt), (z .q, tt), tt, vj j, passed j), tt)
@@ -136,10 +136,10 @@ module _ {M : Type 1} (𝓤 : URA M) (H : Heap 𝓤) (A : Atoms 𝓤) (W : Given
 
   -- what is known of an answer's fields
   abbrev Fits : JobFile → Type 0
-  Fits j = (j .racks < 2 ^ 64) × ((j .bytes < 2 ^ 64) × ((j .slots < 2 ^ 64) × (length (j .cards .now) < 2 ^ 64)))
+  Fits j = (j .racks < 2 ^ 64) × ((j .bytes < 2 ^ 64) × ((j .slots < 2 ^ 64) × ((j .place < 2 ^ 64) × (length (j .cards .now) < 2 ^ 64))))
 
   fits-of : (j : JobFile) (u : Val) → Is (J.the-row α) j (u ∷ []) → Fits j
-  fits-of j u is = let fields = LL.owed D L j _ is in (fields .1 .0 .1, (fields .1 .1 .0 .1, (fields .1 .1 .1 .0 .1, fields .1 .1 .1 .1 .0 .0 .1 .0)))
+  fits-of j u is = let fields = LL.owed D L j _ is in (fields .1 .0 .1, (fields .1 .1 .0 .1, (fields .1 .1 .1 .0 .1, (fields .1 .1 .1 .1 .0 .1, fields .1 .1 .1 .1 .1 .0 .0 .1 .0))))
 
   answer-is : (j : JobFile) (u : Val) → Is (J.the-row α) j (u ∷ []) → Is An.the-row (j .answer) (LL.val An.the-type An′.the-laws (j .answer) ∷ [])
   answer-is j u is = LL.owed D L j _ is .0
@@ -151,46 +151,47 @@ module _ {M : Type 1} (𝓤 : URA M) (H : Heap 𝓤) (A : Atoms 𝓤) (W : Given
     walk : Is (B (lfts z)) d (mach ∷ []) → Room u16 (length (z .c .now)) → Room u16 (length (z .p .now)) → ent 𝓤 (onEntry 𝓤 H A this.signature (lfts z) (shares z) (beside z d) (valsBeside z mach)) (WpFn 𝓤 H C Λ code.function (mach ∷ cv z ∷ pv z ∷ []) Post)
     walk is₀ gc gp =
         qed W (Tok 𝓤 z ∷ ‵ Owns ∷ []) ∵ enter ! C Λ code.function (mach ∷ cv z ∷ pv z ∷ []) _ $
-        alloc1 ! (λ l₀. alloc1 ! (λ l₁. alloc1 ! (λ l₂. alloc1 ! (λ l₃. alloc1 ! (λ l₄. alloc1 ! (λ l₅. alloc1 ! (λ l₆. alloc1 ! (λ l₇. alloc1 ! (λ l₈. alloc1 ! (λ l₉. alloc1 ! (λ l₁₀. alloc1 ! (λ l₁₁. alloc1 ! (λ l₁₂. alloc1 ! (λ l₁₃. alloc1 ! (λ l₁₄. alloc1 ! (λ l₁₅. alloc0 ! $ params1 ! $
-        pass1 ! (init ! 28 refl (LL.lawful (T.the-type α) (T′.the-laws α) 𝓤 H A W .typed d _ is₀ .0)) $ pass1 ! (init ! 26 refl (tt, (tt, (record { fits = gc .0 }, tt)))) $ pass1 ! (init ! 24 refl (tt, (tt, (record { fits = gp .0 }, tt)))) $ pass0 ! $
-        -- [_15; …; _14; …; _13; …; _12; …; _11; …; _10; …; _9; …; _8; …; _7; …; _6; …; _5; …; _4; …; _3; …; _2; …; _1; …; _0; …; the tokens; what the parameters own]
-        assigns ! (of-opd ! (load ! (from ! (stop !)) (look ! 28 refl))) (from ! (stop !)) (init ! 20 refl (LL.lawful (T.the-type αᵉ) (T′.the-laws αᵉ) 𝓤 H A W .typed d _ is₀ .0)) $
-        assigns ! (addr ! (from ! (fld ! refl (hop ! (look-in ! 26 (sub ! 0 refl (whole !))) (stop !))))) (from ! (stop !)) (init ! 18 refl (tt, tt)) $
-        assigns ! (agg ! (and-then ! (load ! (from ! (stop !)) (look ! 18 refl)) (and-then ! (load ! (from ! (fld ! refl (stop !))) (look-in ! 26 (sub ! 1 refl (whole !)))) (no-more !)))) (from ! (stop !)) (init ! 16 refl (tt, (tt, (record { fits = gc .0 }, tt)))) $
-        assigns ! (addr ! (from ! (fld ! refl (hop ! (look-in ! 24 (sub ! 0 refl (whole !))) (stop !))))) (from ! (stop !)) (init ! 14 refl (tt, tt)) $
-        assigns ! (agg ! (and-then ! (load ! (from ! (stop !)) (look ! 14 refl)) (and-then ! (load ! (from ! (fld ! refl (stop !))) (look-in ! 24 (sub ! 1 refl (whole !)))) (no-more !)))) (from ! (stop !)) (init ! 12 refl (tt, (tt, (record { fits = gp .0 }, tt)))) $
+        alloc1 ! (λ l₀. alloc1 ! (λ l₁. alloc1 ! (λ l₂. alloc1 ! (λ l₃. alloc1 ! (λ l₄. alloc1 ! (λ l₅. alloc1 ! (λ l₆. alloc1 ! (λ l₇. alloc1 ! (λ l₈. alloc1 ! (λ l₉. alloc1 ! (λ l₁₀. alloc1 ! (λ l₁₁. alloc1 ! (λ l₁₂. alloc1 ! (λ l₁₃. alloc1 ! (λ l₁₄. alloc1 ! (λ l₁₅. alloc1 ! (λ l₁₆. alloc0 ! $ params1 ! $
+        pass1 ! (init ! 30 refl (LL.lawful (T.the-type α) (T′.the-laws α) 𝓤 H A W .typed d _ is₀ .0)) $ pass1 ! (init ! 28 refl (tt, (tt, (record { fits = gc .0 }, tt)))) $ pass1 ! (init ! 26 refl (tt, (tt, (record { fits = gp .0 }, tt)))) $ pass0 ! $
+        -- [_16; …; _15; …; _14; …; _13; …; _12; …; _11; …; _10; …; _9; …; _8; …; _7; …; _6; …; _5; …; _4; …; _3; …; _2; …; _1; …; _0; …; the tokens; what the parameters own]
+        assigns ! (of-opd ! (load ! (from ! (stop !)) (look ! 30 refl))) (from ! (stop !)) (init ! 22 refl (LL.lawful (T.the-type αᵉ) (T′.the-laws αᵉ) 𝓤 H A W .typed d _ is₀ .0)) $
+        assigns ! (addr ! (from ! (fld ! refl (hop ! (look-in ! 28 (sub ! 0 refl (whole !))) (stop !))))) (from ! (stop !)) (init ! 20 refl (tt, tt)) $
+        assigns ! (agg ! (and-then ! (load ! (from ! (stop !)) (look ! 20 refl)) (and-then ! (load ! (from ! (fld ! refl (stop !))) (look-in ! 28 (sub ! 1 refl (whole !)))) (no-more !)))) (from ! (stop !)) (init ! 18 refl (tt, (tt, (record { fits = gc .0 }, tt)))) $
+        assigns ! (addr ! (from ! (fld ! refl (hop ! (look-in ! 26 (sub ! 0 refl (whole !))) (stop !))))) (from ! (stop !)) (init ! 16 refl (tt, tt)) $
+        assigns ! (agg ! (and-then ! (load ! (from ! (stop !)) (look ! 16 refl)) (and-then ! (load ! (from ! (fld ! refl (stop !))) (look-in ! 26 (sub ! 1 refl (whole !)))) (no-more !)))) (from ! (stop !)) (init ! 14 refl (tt, (tt, (record { fits = gp .0 }, tt)))) $
         -- the reader is had twice, and the lists go to the callee
-        move ! (33 ∷ []) $ fsplit ! $ use1 W (‵ Own ⊛ ‵ Own) (LL.copy (T.the-type α) (T′.the-copy α) 𝓤 H A W .twice d (mach ∷ [])) $ split ! $ move ! (0 ∷ 2 ∷ []) $ fjoin ! $ move ! (34 ∷ 0 ∷ []) $
+        move ! (35 ∷ []) $ fsplit ! $ use1 W (‵ Own ⊛ ‵ Own) (LL.copy (T.the-type α) (T′.the-copy α) 𝓤 H A W .twice d (mach ∷ [])) $ split ! $ move ! (0 ∷ 2 ∷ []) $ fjoin ! $ move ! (36 ∷ 0 ∷ []) $
         use2 W (raw (Reads 𝓤 H A mem run .pre to-reads)) goes-reads $
-        -- [what read_job asks; Own; _15; …]
-        calls-at ! fm (Reads 𝓤 H A mem run) known-reads to-reads (and-then ! (load ! (from ! (stop !)) (look ! 22 refl)) (and-then ! (load ! (from ! (stop !)) (look ! 18 refl)) (and-then ! (load ! (from ! (stop !)) (look ! 14 refl)) (no-more !)))) (λ u.
+        -- [what read_job asks; Own; _16; …]
+        calls-at ! fm (Reads 𝓤 H A mem run) known-reads to-reads (and-then ! (load ! (from ! (stop !)) (look ! 24 refl)) (and-then ! (load ! (from ! (stop !)) (look ! 20 refl)) (and-then ! (load ! (from ! (stop !)) (look ! 16 refl)) (no-more !)))) (λ u.
         use1 W (later (some (λ (j : JobFile). (Tok 𝓤 z ⊛ ‵ (J.the-row α .own j (u ∷ []))) ⊛ raw (ensured 𝓤 H A reads.ended (reads.clauses 𝓤 H A mem run) (lfts z) (beside z d) tt j)))) (id⊢ 𝓤 _) $ await ! tt $ pick ! (λ j.
         split ! $ move ! (1 ∷ []) $ use1 W (some (λ (ws : Lasts reads.ended (lfts z) (beside z d)). ‵ (lasts reads.ended (lfts z) (beside z d) ws) ⊛ raw (fact 𝓤 (Said j ws)))) (id⊢ 𝓤 _) $ pick ! (λ ws.
         split ! $ move ! (1 ∷ []) $ let-go ! $ fsplit ! $ let-go ! $ fsplit ! $ fsplit ! $ move ! (1 ∷ []) $ feqL ! (λ lx. move ! (1 ∷ []) $ fsplit ! $ fsplit ! $ move ! (1 ∷ []) $ feqL ! (λ ly.
-        -- [the last places; true; the last caps; the tokens and the result; Own; _15; …]
+        -- [the last places; true; the last caps; the tokens and the result; Own; _16; …]
         move ! (3 ∷ []) $ split ! $ move ! (1 ∷ []) $ peeks ! (J.the-row α) (Is (J.the-row α)) (shows 𝓤 H A (J.the-row α)) j (u ∷ []) (λ is.
-        -- [what the answer owns; the tokens; the last places; true; the last caps; Own; _15; …; _4 at 28; …; _0 at 36; …]
+        -- [what the answer owns; the tokens; the last places; true; the last caps; Own; _16; …; _4 at 30; …; _0 at 38; …]
         rewrite ! 0 (λ (vs : List Val). ‵ (J.the-row α .own j vs)) (LL.tells D L j (u ∷ []) is) refl $
-        land ! (from ! (stop !)) (init ! 28 refl (LL.lawful (J.the-type αᵉ) (J′.the-laws αᵉ) 𝓤 H A W .typed j _ is .0)) $
-        rewrite ! 28 (λ (w : Val). ‵ (fat fullShare (J′.mir erased) l₄ 0 w)) (ap only (LL.tells D L j (u ∷ []) is)) refl $
-        assigns ! (of-opd ! (load ! (from ! (fld ! refl (stop !))) (look-in ! 28 (sub ! 0 refl (whole !))))) (from ! (stop !)) (init ! 14 refl (LL.lawful An.the-type An′.the-laws 𝓤 H A W .typed (j .answer) _ (answer-is j u is) .0)) $
-        assigns ! (of-opd ! (load ! (from ! (fld ! refl (stop !))) (look-in ! 28 (sub ! 1 refl (whole !))))) (from ! (stop !)) (init ! 12 refl (tt, record { fits = fits-of j u is .0 })) $
-        assigns ! (of-opd ! (load ! (from ! (fld ! refl (stop !))) (look-in ! 28 (sub ! 2 refl (whole !))))) (from ! (stop !)) (init ! 10 refl (tt, record { fits = fits-of j u is .1 .0 })) $
-        assigns ! (of-opd ! (load ! (from ! (fld ! refl (stop !))) (look-in ! 28 (sub ! 3 refl (whole !))))) (from ! (stop !)) (init ! 8 refl (tt, record { fits = fits-of j u is .1 .1 .0 })) $
-        assigns ! (of-opd ! (load ! (from ! (fld ! refl (stop !))) (look-in ! 28 (sub ! 4 refl (whole !))))) (from ! (stop !)) (init ! 6 refl (tt, (tt, (record { fits = fits-of j u is .1 .1 .1 }, tt)))) $
+        land ! (from ! (stop !)) (init ! 30 refl (LL.lawful (J.the-type αᵉ) (J′.the-laws αᵉ) 𝓤 H A W .typed j _ is .0)) $
+        rewrite ! 30 (λ (w : Val). ‵ (fat fullShare (J′.mir erased) l₄ 0 w)) (ap only (LL.tells D L j (u ∷ []) is)) refl $
+        assigns ! (of-opd ! (load ! (from ! (fld ! refl (stop !))) (look-in ! 30 (sub ! 0 refl (whole !))))) (from ! (stop !)) (init ! 16 refl (LL.lawful An.the-type An′.the-laws 𝓤 H A W .typed (j .answer) _ (answer-is j u is) .0)) $
+        assigns ! (of-opd ! (load ! (from ! (fld ! refl (stop !))) (look-in ! 30 (sub ! 1 refl (whole !))))) (from ! (stop !)) (init ! 14 refl (tt, record { fits = fits-of j u is .0 })) $
+        assigns ! (of-opd ! (load ! (from ! (fld ! refl (stop !))) (look-in ! 30 (sub ! 2 refl (whole !))))) (from ! (stop !)) (init ! 12 refl (tt, record { fits = fits-of j u is .1 .0 })) $
+        assigns ! (of-opd ! (load ! (from ! (fld ! refl (stop !))) (look-in ! 30 (sub ! 3 refl (whole !))))) (from ! (stop !)) (init ! 10 refl (tt, record { fits = fits-of j u is .1 .1 .0 })) $
+        assigns ! (of-opd ! (load ! (from ! (fld ! refl (stop !))) (look-in ! 30 (sub ! 4 refl (whole !))))) (from ! (stop !)) (init ! 8 refl (tt, record { fits = fits-of j u is .1 .1 .1 .0 })) $
+        assigns ! (of-opd ! (load ! (from ! (fld ! refl (stop !))) (look-in ! 30 (sub ! 5 refl (whole !))))) (from ! (stop !)) (init ! 6 refl (tt, (tt, (record { fits = fits-of j u is .1 .1 .1 .1 }, tt)))) $
         -- the tokens are parted, and what the answer owns goes to the callee
         move ! (1 ∷ []) $ split ! $ nothing ! $ move ! (1 ∷ 0 ∷ []) $ join ! $ move ! (2 ∷ 0 ∷ []) $ use2 W (raw (Says 𝓤 H A mem run .pre (to-says j))) (goes-says j) $
-        -- [what say_job asks; the lists' tokens; the last places; true; the last caps; Own; _15; …]
-        calls-at ! fm (Says 𝓤 H A mem run) known-says (to-says j) (and-then ! (load ! (from ! (stop !)) (look ! 14 refl)) (and-then ! (load ! (from ! (stop !)) (look ! 12 refl)) (and-then ! (load ! (from ! (stop !)) (look ! 10 refl)) (and-then ! (load ! (from ! (stop !)) (look ! 8 refl)) (and-then ! (load ! (from ! (stop !)) (look ! 6 refl)) (no-more !)))))) (λ u′.
+        -- [what say_job asks; the lists' tokens; the last places; true; the last caps; Own; _16; …]
+        calls-at ! fm (Says 𝓤 H A mem run) known-says (to-says j) (and-then ! (load ! (from ! (stop !)) (look ! 16 refl)) (and-then ! (load ! (from ! (stop !)) (look ! 14 refl)) (and-then ! (load ! (from ! (stop !)) (look ! 12 refl)) (and-then ! (load ! (from ! (stop !)) (look ! 10 refl)) (and-then ! (load ! (from ! (stop !)) (look ! 8 refl)) (and-then ! (load ! (from ! (stop !)) (look ! 6 refl)) (no-more !))))))) (λ u′.
         use1 W (later (some (λ (t : Unit {0}). (Tok₁ 𝓤 z ⊛ ‵ (Nothing .own t (u′ ∷ []))) ⊛ raw (ensured 𝓤 H A says.ended (says.clauses 𝓤 H A mem run) (z .κ, tt) (vj j) tt t)))) (id⊢ 𝓤 _) $ await ! tt $ pick ! (λ t.
         split ! $ move ! (1 ∷ []) $ let-go ! $ split ! $ move ! (1 ∷ []) $ feqL ! (λ e.
-        -- [the file's token; the lists' tokens; the last places; true; the last caps; Own; _15; …; _10 at 16; …; _0 at 36; …]
-        land ! (from ! (stop !)) (init ! 16 refl (subst (λ (y : Val). Holds (hasTy tyUnit y) × WT y) (sym (ap only e)) (tt, tt))) $
-        assigns ! (of-opd ! (unit-lit !)) (from ! (stop !)) (init ! 36 refl (tt, tt)) $
-        returns ! (look ! 36 refl) $ forget ! 6 refl $ forget ! 8 refl $ forget ! 10 refl $ forget ! 12 refl $ forget ! 14 refl $ forget ! 16 refl $ forget ! 18 refl $ forget ! 20 refl $ forget ! 22 refl $ forget ! 24 refl $ forget ! 26 refl $ forget ! 28 refl $ forget ! 30 refl $ forget ! 32 refl $ forget ! 34 refl $ forget ! 36 refl $
-        move ! (36 ∷ 37 ∷ []) $ free1 ! $ move ! (34 ∷ 35 ∷ []) $ free1 ! $ move ! (32 ∷ 33 ∷ []) $ free1 ! $ move ! (30 ∷ 31 ∷ []) $ free1 ! $ move ! (28 ∷ 29 ∷ []) $ free1 ! $ move ! (26 ∷ 27 ∷ []) $ free1 ! $ move ! (24 ∷ 25 ∷ []) $ free1 ! $ move ! (22 ∷ 23 ∷ []) $ free1 ! $ move ! (20 ∷ 21 ∷ []) $ free1 ! $ move ! (18 ∷ 19 ∷ []) $ free1 ! $ move ! (16 ∷ 17 ∷ []) $ free1 ! $ move ! (14 ∷ 15 ∷ []) $ free1 ! $ move ! (12 ∷ 13 ∷ []) $ free1 ! $ move ! (10 ∷ 11 ∷ []) $ free1 ! $ move ! (8 ∷ 9 ∷ []) $ free1 ! $ move ! (6 ∷ 7 ∷ []) $ free1 ! $ free0 ! $
+        -- [the file's token; the lists' tokens; the last places; true; the last caps; Own; _16; …; _10 at 18; …; _0 at 38; …]
+        land ! (from ! (stop !)) (init ! 18 refl (subst (λ (y : Val). Holds (hasTy tyUnit y) × WT y) (sym (ap only e)) (tt, tt))) $
+        assigns ! (of-opd ! (unit-lit !)) (from ! (stop !)) (init ! 38 refl (tt, tt)) $
+        returns ! (look ! 38 refl) $ forget ! 6 refl $ forget ! 8 refl $ forget ! 10 refl $ forget ! 12 refl $ forget ! 14 refl $ forget ! 16 refl $ forget ! 18 refl $ forget ! 20 refl $ forget ! 22 refl $ forget ! 24 refl $ forget ! 26 refl $ forget ! 28 refl $ forget ! 30 refl $ forget ! 32 refl $ forget ! 34 refl $ forget ! 36 refl $ forget ! 38 refl $
+        move ! (38 ∷ 39 ∷ []) $ free1 ! $ move ! (36 ∷ 37 ∷ []) $ free1 ! $ move ! (34 ∷ 35 ∷ []) $ free1 ! $ move ! (32 ∷ 33 ∷ []) $ free1 ! $ move ! (30 ∷ 31 ∷ []) $ free1 ! $ move ! (28 ∷ 29 ∷ []) $ free1 ! $ move ! (26 ∷ 27 ∷ []) $ free1 ! $ move ! (24 ∷ 25 ∷ []) $ free1 ! $ move ! (22 ∷ 23 ∷ []) $ free1 ! $ move ! (20 ∷ 21 ∷ []) $ free1 ! $ move ! (18 ∷ 19 ∷ []) $ free1 ! $ move ! (16 ∷ 17 ∷ []) $ free1 ! $ move ! (14 ∷ 15 ∷ []) $ free1 ! $ move ! (12 ∷ 13 ∷ []) $ free1 ! $ move ! (10 ∷ 11 ∷ []) $ free1 ! $ move ! (8 ∷ 9 ∷ []) $ free1 ! $ move ! (6 ∷ 7 ∷ []) $ free1 ! $ free0 ! $
         -- the tokens are put together again
-        split ! $ move ! (1 ∷ []) $ let-go ! $ join ! $ keep ! (0 ∷ 4 ∷ 3 ∷ 1 ∷ []) $ by ! (exits (ws .1 .0) (ws .1 .1 .0) lx ly))))))))))))))))))))))))))
+        split ! $ move ! (1 ∷ []) $ let-go ! $ join ! $ keep ! (0 ∷ 4 ∷ 3 ∷ 1 ∷ []) $ by ! (exits (ws .1 .0) (ws .1 .1 .0) lx ly)))))))))))))))))))))))))))
 
 module _ {M : Type 1} (𝓤 : URA M) (H : Heap 𝓤) (A : Atoms 𝓤) (W : Given 𝓤 H A) (mem : Memory → SProp 𝓤) (run : Routine → Fun 𝓤) where
   this-walks : (C : Calls 𝓤 H) (Λ : Loops 𝓤 H) → FmC 𝓤 H (W .laws) C → Triple 𝓤 (C #jobreader·read-job) (Reads 𝓤 H A mem run) → Triple 𝓤 (C #paper-files·say·say-job) (Says 𝓤 H A mem run)

@@ -5,7 +5,7 @@ use lib.ListN.{length, take}
 use lib.Seq.{sets, length-sets}
 use Rattle.moves.specs.Blocks.{block}
 use Rattle.moves.proofs.Blocks.{block-part, block-long}
-use Rattle.copies.proofs.Writing.{take-front}
+use Rattle.counting.proofs.Stores.{take-front}
 use Rattle.shuffle.proofs.parts.hands.take_card.Statement.{statement}
 use Rattle.shuffle.proofs.parts.hands.take_card.Tie as tie
 
