@@ -40,7 +40,7 @@ impl Tally {
     }
 }
 
-// What every call gives: a number of 01's list and the counts.
+// What every call gives: a number of the rules' list and the counts.
 pub struct Answer {
     pub number: u8,
     pub tally: Tally,

@@ -11,12 +11,12 @@ use lib.Pow.{shr-le}
 use lib.Count.{trailingZeros, trailing-le}
 use borrow.Author.Tests.{eqb-true}
 use Rattle.counting.proofs.Tests.{no-way, not-off-is}
-use Rattle.bits.specs.parts.Bits.{bitOn, isOn, Topped, Next}
+use Rattle.bits.specs.parts.Bits.{bitOn, isOn, Topped, NextOn}
 use Rattle.bits.proofs.Words.{bit-none, bit-shift}
 use Rattle.bits.proofs.Trailing.{trailing-below, trailing-hit, trailing-lt, bit-over}
 
 -- from the end on there is none
-pub next-end : (test : ℕ → Bool) (low high : ℕ) → low ≡ high → Next test low high high
+pub next-end : (test : ℕ → Bool) (low high : ℕ) → low ≡ high → NextOn test low high high
 next-end test low high e = record {
   up = omega arith;
   within = omega arith;
@@ -39,7 +39,7 @@ pub place-fits : (s n : ℕ) → s ≤ 64 → s + trailingZeros 64 n < 2 ^ 64
 place-fits s n h = omega (arith, trailing-le 64 n)
 
 -- nothing left above s: no bit is on from there
-pub next-off : (word s : ℕ) → s ≤ 64 → word / 2 ^ s ≡ 0 → Next (bitOn word) s 64 64
+pub next-off : (word s : ℕ) → s ≤ 64 → word / 2 ^ s ≡ 0 → NextOn (bitOn word) s 64 64
 next-off word s h e = record {
   up = h;
   within = omega arith;
@@ -66,7 +66,7 @@ module _ (word s : ℕ) (fits : word < 2 ^ 64) (some : word / 2 ^ s ≡ 0 → �
   ]
 
   -- and is the next that is on
-  pub next-left : Next (bitOn word) s 64 (s + trailingZeros 64 (word / 2 ^ s))
+  pub next-left : NextOn (bitOn word) s 64 (s + trailingZeros 64 (word / 2 ^ s))
   next-left = record {
     up = omega arith;
     within = omega (arith, next-within);

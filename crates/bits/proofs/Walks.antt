@@ -8,7 +8,7 @@ use native.Mathlib.Decide.{ℕ-discrete, decLt, decLe}
 use lib.Dec.{eqb}
 use lib.ListN.{getD}
 use Rattle.counting.proofs.Tests.{no-way}
-use Rattle.bits.specs.parts.Bits.{bitOn, turnedOff, isOn, Topped, Next, Walking, Onward, Walked}
+use Rattle.bits.specs.parts.Bits.{bitOn, turnedOff, isOn, Topped, NextOn, Walking, Onward, WalkedOn}
 use Rattle.bits.proofs.Words.{bit-none, bit-shift, turned-off-here, turned-off-other}
 use Rattle.bits.proofs.Trailing.{all-off, bit-over}
 use Rattle.bits.proofs.Nexts.{is-on-at, top-off}
@@ -29,7 +29,7 @@ walk-from {words} t low h = record {
 }
 
 -- a word that is not 0 has a bit on
-pub some-bit : (word b : ℕ) → word < 2 ^ 64 → (word ≡ 0 → ⊥) → Next (bitOn word) 0 64 b → b < 64
+pub some-bit : (word b : ℕ) → word < 2 ^ 64 → (word ≡ 0 → ⊥) → NextOn (bitOn word) 0 64 b → b < 64
 some-bit word b h f o = elim (decLt b 64) [
   | yes l ↦ l
   | no l ↦ absurd (f (all-off 64 word h (λ j m. o .passed j (omega arith) (omega arith))))
@@ -46,7 +46,7 @@ module _ {words : List ℕ} {t at rest : ℕ} (w : Walking words t at rest) wher
   ]
 
   -- nor is any of the words up to the next that has a bit on
-  walk-words : Topped words → rest ≡ 0 → {v : ℕ} → Next (bitOn (getD words 64 0)) (at / 64 + 1) 64 v → (k : ℕ) → t ≤ k → k < v * 64 → isOn words k ≡ false
+  walk-words : Topped words → rest ≡ 0 → {v : ℕ} → NextOn (bitOn (getD words 64 0)) (at / 64 + 1) 64 v → (k : ℕ) → t ≤ k → k < v * 64 → isOn words k ≡ false
   walk-words p e {v} o k l m = elim (decLt k ((at / 64 + 1) * 64)) [
     | yes i ↦ walk-word e k l i
     | no i ↦ is-on-at words k (k / 64) (k % 64) refl refl
@@ -54,7 +54,7 @@ module _ {words : List ℕ} {t at rest : ℕ} (w : Walking words t at rest) wher
   ]
 
   -- that word is walked next
-  walk-to : Topped words → rest ≡ 0 → {v : ℕ} → Next (bitOn (getD words 64 0)) (at / 64 + 1) 64 v → v < 64 → Walking words t (v * 64) (getD words v 0)
+  walk-to : Topped words → rest ≡ 0 → {v : ℕ} → NextOn (bitOn (getD words 64 0)) (at / 64 + 1) 64 v → v < 64 → Walking words t (v * 64) (getD words v 0)
   walk-to p e {v} o h = record {
     few = omega arith;
     within = omega (arith, w .within, o .up);
@@ -65,7 +65,7 @@ module _ {words : List ℕ} {t at rest : ℕ} (w : Walking words t at rest) wher
   }
 
   -- b is the first bit that is left
-  module _ {b : ℕ} (o : Next (bitOn rest) 0 64 b) (f : b < 64) where
+  module _ {b : ℕ} (o : NextOn (bitOn rest) 0 64 b) (f : b < 64) where
     -- it is not behind t
     bit-ahead : t ≤ at + b
     bit-ahead = elim (decLe t (at + b)) [
@@ -81,7 +81,7 @@ module _ {words : List ℕ} {t at rest : ℕ} (w : Walking words t at rest) wher
     ]
 
     -- so it is the next number
-    pub walk-next : t ≤ 4096 → {r : ℕ} → r ≡ min (at + b) 4096 → Next (isOn words) t 4096 r
+    pub walk-next : t ≤ 4096 → {r : ℕ} → r ≡ min (at + b) 4096 → NextOn (isOn words) t 4096 r
     walk-next h {r} e = record {
       up = omega (arith, bit-ahead);
       within = omega arith;
@@ -125,7 +125,7 @@ module _ {words : List ℕ} {at rest : ℕ} where
   }
 
   -- the ways a walk goes on: something of the word is left
-  pub walked-same : (rest ≡ 0 → ⊥) → Walked words at rest at rest
+  pub walked-same : (rest ≡ 0 → ⊥) → WalkedOn words at rest at rest
   walked-same f = record { kept = λ t w. w; left = f }
 
   module _ (e : rest ≡ 0) (n : Onward words at rest) where
@@ -133,7 +133,7 @@ module _ {words : List ℕ} {at rest : ℕ} where
     pub later-in : at / 64 + 1 ≤ 64
     later-in = let r = n .later e in omega (arith, r .after, r .within)
 
-    module _ (p : Topped words) {v : ℕ} (o : Next (bitOn (getD words 64 0)) (at / 64 + 1) 64 v) where
+    module _ (p : Topped words) {v : ℕ} (o : NextOn (bitOn (getD words 64 0)) (at / 64 + 1) 64 v) where
       -- one of them has a bit on
       pub later-lt : v < 64
       later-lt = let r = n .later e in elim (decLt v 64) [
@@ -143,7 +143,7 @@ module _ {words : List ℕ} {at rest : ℕ} where
       ]
 
       -- it is walked next
-      pub walked-word : Walked words at rest (v * 64) (getD words v 0)
+      pub walked-word : WalkedOn words at rest (v * 64) (getD words v 0)
       walked-word = record {
         kept = λ t w. walk-to w p e o later-lt;
         left = λ z. no-way (sym (p .tops v later-lt) ∙ o .hit later-lt) (ap (λ (x : ℕ). not (eqb x 0)) z);

@@ -2,7 +2,7 @@
 ghost use mathlib.Core.Path.{_≡_};
 ghost use Prim.Native.Nat.{_≤_, _<_};
 ghost use lib.ListN.{length};
-ghost use Rattle.bits.specs.parts.Bits.{NUMBERS, WORDS, TOP, bitOn, turnedOn, turnedOff, marked, filled, cleared, Topped, Next, Walking, Onward, Walked};
+ghost use Rattle.bits.specs.parts.Bits.{NUMBERS, WORDS, TOP, bitOn, turnedOn, turnedOff, marked, filled, cleared, Topped, NextOn, Walking, Onward, WalkedOn};
 
 // The words of a set: one for each 64 numbers below 4,096, one with a bit for each of those that is not empty, and one more, which is its user's.
 pub const WORDS: usize = 66;
@@ -19,7 +19,7 @@ pub fn words_agree()
 // The first bit of a word from bit s up that is on; 64 where none is.
 pub fn next_on(word: u64, s: usize) -> usize
     requires { ⌜ s ≤ 64 ⌝ }
-    ensures { λ r. ⌜ Next (bitOn word) s 64 r ⌝ }
+    ensures { λ r. ⌜ NextOn (bitOn word) s 64 r ⌝ }
 {
     if s == 64 {
         return 64;
@@ -98,7 +98,7 @@ pub fn walk_from(words: &[u64; WORDS], low: usize) -> u64
 // A walk goes on: where nothing of the word is left, to the next that has a bit on. There is one.
 pub fn walk_on(words: &[u64; WORDS], at: usize, rest: u64) -> Walk
     requires { ⌜ (at ≤ NUMBERS) × Onward (now words) at rest × Topped (now words) ⌝ }
-    ensures { λ r. ⌜ Walked (now (words .entry)) at rest (r .at) (r .rest) ⌝ }
+    ensures { λ r. ⌜ WalkedOn (now (words .entry)) at rest (r .at) (r .rest) ⌝ }
 {
     if rest != 0 {
         return Walk { at, rest };

@@ -74,10 +74,10 @@ module _ (racks : List Rack) (places : List ℕ) where
 pub plan-in-turn : {racks : List Rack} {places : List ℕ} → Legal racks places → InTurn racks places (plan racks places)
 plan-in-turn {racks} {places} l = pairs-in-turn l (plan-apart racks places) (plan-allowed racks places)
 
-module _ {racks : List Rack} {places line bits : List ℕ} (l : Legal racks places) (r : Ready racks places (rowsOf line bits)) (racking : List ℕ) (filled : Filled racks racking)
-    {log : List ℕ} {at : ℕ} {line₁ bits₁ log′ : List ℕ} {count : ℕ} (d : PhasePlanned line bits log at line₁ bits₁ log′ count) where
+module _ {racks : List Rack} {places ends line bits : List ℕ} (l : Legal racks places) (r : Ready racks places (rowsOf ends line bits)) (racking : List ℕ) (filled : Filled racks racking)
+    {log : List ℕ} {at : ℕ} {line₁ bits₁ log′ : List ℕ} {count : ℕ} (d : PhasePlanned ends line bits log at line₁ bits₁ log′ count) where
   abbrev rows : Rows
-  rows = rowsOf line bits
+  rows = rowsOf ends line bits
 
   abbrev places′ : List ℕ
   places′ = carriedPlaces (plan racks places) places
@@ -107,7 +107,6 @@ module _ {racks : List Rack} {places line bits : List ℕ} (l : Legal racks plac
     rooms-same = λ p h i. refl;
     heads-same = λ p h. refl;
     tails-same = λ p h. refl;
-    lows-same = λ p h. refl;
     queue-same = refl;
     long = d .long;
   }
@@ -121,10 +120,7 @@ module _ {racks : List Rack} {places line bits : List ℕ} (l : Legal racks plac
   tail-is : (p : ℕ) → p < 64 → tailOf line′ p ≡ tailOf line p
   tail-is p m = end .tails-same p m ∙ d .passed .tails-are p m
 
-  low-is : (p : ℕ) → p < 64 → rowsOf line′ bits′ .lows p ≡ rows .lows p
-  low-is p m = end .lows-same p m ∙ d .passed .lows-are p m
-
-  queue-is : rowsOf line′ bits′ .queue ≡ rows .queue
+  queue-is : rowsOf ends line′ bits′ .queue ≡ rows .queue
   queue-is = end .queue-same ∙ d .passed .queue-is
 
   room-is : (p : ℕ) → p < length racks → roomOf line′ p ≡ room racks places′ p
@@ -134,21 +130,21 @@ module _ {racks : List Rack} {places line bits : List ℕ} (l : Legal racks plac
   room-none : (p : ℕ) → length racks ≤ p → p < 64 → roomOf line′ p ≡ 0
   room-none p h m = end .rooms-same p h m ∙ omega (arith, d .passed .rooms-are p m, r .others-full p h m)
 
-  visitable : (p : ℕ) → p < 64 → Visitable (rowsOf line′ bits′) p
+  visitable : (p : ℕ) → p < 64 → Visitable (rowsOf ends line′ bits′) p
   visitable p m =
       let v = visit p m in
       record {
         queued = omega (arith, head-is p m, tail-is p m, sent-le rows p v);
         within = omega (arith, tail-is p m, v .within);
-        low-in = omega (arith, low-is p m, v .low-in);
+        low-in = v .low-in;
         roomy = elim (decLt p (length racks)) [
-          | yes h ↦ rw (low-is p m, r .lows-are p h) (omega (arith, room-is p h, opens-roomy racks places′ p h (r .small) bits′ (end .shown)))
+          | yes h ↦ rw (r .lows-are p h) (omega (arith, room-is p h, opens-roomy racks places′ p h (r .small) bits′ (end .shown)))
           | no h ↦ omega (arith, room-none p (omega arith) m)
         ];
       }
 
   -- the rows fit the table after the phase
-  pub ready-next : Ready racks places′ (rowsOf line′ bits′)
+  pub ready-next : Ready racks places′ (rowsOf ends line′ bits′)
   ready-next =
       record {
         bounded =
@@ -166,11 +162,11 @@ module _ {racks : List Rack} {places line bits : List ℕ} (l : Legal racks plac
             (sym (waits-carried racks places l (plan-in-turn l) p h));
         shown = end .shown;
         rooms-are = room-is;
-        lows-are = λ p h. low-is p (omega (arith, r .few)) ∙ r .lows-are p h;
+        lows-are = r .lows-are;
         others = λ p h m. omega (arith, head-is p m, tail-is p m, r .others p h m, sent-le rows p (visit p m));
         others-full = room-none;
       }
 
   -- the line has its length
-  pub next-long : length line′ ≡ 4416
+  pub next-long : length line′ ≡ 4352
   next-long = end .long

@@ -12,10 +12,11 @@ use Rattle.counting.specs.Every.All.{more}
 use Rattle.counting.proofs.Every.{all-map, all-take}
 use Rattle.counting.proofs.Lists.{take-min}
 use Rattle.counting.proofs.Stores.{length-flat}
+use Rattle.racks.specs.Job.{startIn}
 use Rattle.answers.specs.declared.Tally.{Tally}
 use Rattle.bits.specs.parts.Bits.{marked, cleared}
 use Rattle.bits.proofs.Sets.{length-marked, length-cleared}
-use Rattle.queues.specs.parts.Line.{roomOf, lowOf}
+use Rattle.queues.specs.parts.Line.{roomOf}
 use Rattle.queues.specs.parts.Queues.{rowsOf, queuedPlan, PhasePlanned}
 use Rattle.queues.specs.parts.Queued.{oneMore}
 use Rattle.queues.proofs.Opens.{open-few}
@@ -90,10 +91,10 @@ module _ (log : List ℕ) (i high : ℕ) (fits : high ≤ length log) {racking l
   unfolding noted
   noting-bits l = rw (pairs-none log i high fits l) at (s .bits-end)
 
-module _ (b k : ℕ) (t : Tally) (h : Held) (racking line bits log line₁ bits₁ log′ : List ℕ) (planned made : ℕ) (w : Runnable b k t h racking line bits log)
-    (p : PhasePlanned line bits log (2 * t .moves) line₁ bits₁ log′ planned) (e : made ≡ min planned (k - t .moves)) where
+module _ (ends : List ℕ) (b k : ℕ) (t : Tally) (h : Held) (racking line bits log line₁ bits₁ log′ : List ℕ) (planned made : ℕ) (w : Runnable ends b k t h racking line bits log)
+    (p : PhasePlanned ends line bits log (2 * t .moves) line₁ bits₁ log′ planned) (e : made ≡ min planned (k - t .moves)) where
   abbrev all : List Pair
-  all = queuedPlan 64 (rowsOf line bits)
+  all = queuedPlan 64 (rowsOf ends line bits)
 
   abbrev high : ℕ
   high = 2 * t .moves + 2 * made
@@ -129,7 +130,7 @@ module _ (b k : ℕ) (t : Tally) (h : Held) (racking line bits log line₁ bits�
           arith,
           p .passed .rooms-are q l,
           w .plannable .bounded .racks q l .roomy,
-          open-few bits (lowOf line q) 4096,
+          open-few bits (startIn ends q) 4096,
           ap length pairs-made,
           length-take (k - t .moves) all,
           w .plan-few,
@@ -140,7 +141,7 @@ module _ (b k : ℕ) (t : Tally) (h : Held) (racking line bits log line₁ bits�
 
   -- carried, and noted
   pub phase-run : {t′ : Tally} {h′ : Held} {line′ bits′ : List ℕ} → Carried b (pairsIn log′ (2 * t .moves) high) h t h′ t′ → Noted racking (pairsIn log′ (2 * t .moves) high) line₁ bits₁ line′ bits′
-      → PhaseRun b k t h racking line bits log t′ h′ line′ bits′ log′
+      → PhaseRun ends b k t h racking line bits log t′ h′ line′ bits′ log′
   phase-run c n = record {
     line₁ = line₁;
     bits₁ = bits₁;

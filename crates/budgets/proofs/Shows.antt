@@ -19,7 +19,7 @@ use Rattle.plans.specs.Plan.{room}
 use Rattle.plans.specs.Allowed.{Allowed}
 use Rattle.bits.specs.parts.Bits.{isOn, marked, Topped}
 use Rattle.bits.proofs.Sets.{length-marked, topped-marked, topped-cleared, marked-here, marked-other, cleared-here, cleared-other, marked-beside, cleared-beside}
-use Rattle.queues.specs.parts.Line.{queueOf, headOf, tailOf, roomOf, lowOf}
+use Rattle.queues.specs.parts.Line.{queueOf, headOf, tailOf, roomOf}
 use Rattle.queues.specs.parts.Queued.{oneMore}
 use Rattle.queues.specs.parts.Openings.{Shown}
 use Rattle.queues.proofs.Line.{queue-kept}
@@ -44,7 +44,7 @@ module _ (racking : List ℕ) (m : Pair) (line : List ℕ) (few : getD racking (
   unfolding noteLine oneMore
   note-else k d = getD-set-other line _ k _ 0 d
 
-  pub note-here : length line ≡ 4416 → roomOf (noteLine racking m line) (getD racking (m .0) 0) ≡ roomOf line (getD racking (m .0) 0) + 1
+  pub note-here : length line ≡ 4352 → roomOf (noteLine racking m line) (getD racking (m .0) 0) ≡ roomOf line (getD racking (m .0) 0) + 1
   unfolding noteLine oneMore
   note-here e = getD-set-same line (4288 + getD racking (m .0) 0) _ 0 (omega arith)
 
@@ -58,9 +58,8 @@ pub record Midway (racks : List Rack) (start words : List ℕ) (places : List �
   pub rooms-same : (p : ℕ) → length racks ≤ p → p < 64 → roomOf line p ≡ roomOf start p
   pub heads-same : (p : ℕ) → p < 64 → headOf line p ≡ headOf start p
   pub tails-same : (p : ℕ) → p < 64 → tailOf line p ≡ tailOf start p
-  pub lows-same : (p : ℕ) → p < 64 → lowOf line p ≡ lowOf start p
   pub queue-same : queueOf line ≡ queueOf start
-  pub long : length line ≡ 4416
+  pub long : length line ≡ 4352
 
 module _ {racks : List Rack} (small : slots racks ≤ 4096) (fewRacks : length racks ≤ 64) (racking : List ℕ) (filled : Filled racks racking) {start words : List ℕ} where
   -- a move noted
@@ -86,7 +85,6 @@ module _ {racks : List Rack} (small : slots racks ≤ 4096) (fewRacks : length r
         rooms-same = λ p h i. note-else racking m line few (4288 + p) (λ q. omega (arith, rack, rack-lt racks (m .0) (a .from-lt))) ∙ s .rooms-same p h i;
         heads-same = λ p h. note-else racking m line few (4160 + p) (λ q. omega arith) ∙ s .heads-same p h;
         tails-same = λ p h. note-else racking m line few (4224 + p) (λ q. omega arith) ∙ s .tails-same p h;
-        lows-same = λ p h. note-else racking m line few (4352 + p) (λ q. omega (arith, few)) ∙ s .lows-same p h;
         queue-same = note-queue racking m line few ∙ s .queue-same;
         long = note-long racking m line few ∙ s .long;
       }
@@ -122,7 +120,7 @@ module _ {racks : List Rack} (small : slots racks ≤ 4096) (fewRacks : length r
 
 -- moves noted leave the line as long as it was
 pub noted-long : {racks : List Rack} (racking : List ℕ) → Filled racks racking → length racks ≤ 64 → {places : List ℕ} {ms : List Pair} (line : List ℕ) → Legal racks places → InTurn racks places ms
-    → length line ≡ 4416 → length (notedLine racking ms line) ≡ 4416
+    → length line ≡ 4352 → length (notedLine racking ms line) ≡ 4352
 unfolding notedLine
 noted-long racking filled few line l stop e = e
 noted-long {racks} racking filled few line l (next {m} a t) e =

@@ -50,7 +50,7 @@ pub record MovesOnly (t : Tally) : Type 0 where
   pub phases-none : t .phases ≡ 0
   pub copies-none : t .copies ≡ 0
 
-module _ {racks : List Rack} {b k : ℕ} {h₀ : Held} {t : Tally} {h : Held} {line bits log : List ℕ} (s : Turn racks b k h₀ t h line bits log) where
+module _ {racks : List Rack} {ends : List ℕ} {b k : ℕ} {h₀ : Held} {t : Tally} {h : Held} {line bits log : List ℕ} (s : Turn racks ends b k h₀ t h line bits log) where
   -- k moves are made
   pub turn-spent : MovesOnly t → k ≤ t .moves → Made racks b k h₀ h t
   unfolding carriedPlaces carriedCards
@@ -67,12 +67,16 @@ module _ {racks : List Rack} {b k : ℕ} {h₀ : Held} {t : Tally} {h : Held} {l
       let n : t .moves ≡ min k (aways racks (h₀ .places)) = omega (arith, s .count, aways-none racks (h .places) f) in
       record { tally-is = tally-is t _ _ _ (o .phases-none) n (o .copies-none); held-is = rw (budget-none racks (h .places) (k - t .moves) f) at (s .rest) }
 
+  -- some rack waits: a card is away
+  pub turn-waits : t .moves < k → (getD bits 65 0 ≡ 0 → ⊥) → someAway racks (h .places) ≡ true
+  turn-waits l w = some-waits (s .ready l) (s .ready l .bounded .topped .small 65) w
+
   module _ {racking : List ℕ} (f : Fixed racks racking) (l : t .moves < k) where
-    all-is : queuedPlan 64 (rowsOf line bits) ≡ plan racks (h .places)
-    all-is = ready-plan racks (h .places) (rowsOf line bits) (s .ready l)
+    all-is : queuedPlan 64 (rowsOf ends line bits) ≡ plan racks (h .places)
+    all-is = ready-plan racks (h .places) (rowsOf ends line bits) (s .ready l)
 
     -- a phase can be run
-    pub turn-runnable : Runnable b k t h racking line bits log
+    pub turn-runnable : Runnable ends b k t h racking line bits log
     turn-runnable =
         record {
           within = s .within;
@@ -90,7 +94,7 @@ module _ {racks : List Rack} {b k : ℕ} {h₀ : Held} {t : Tally} {h : Held} {l
         }
 
     -- the phase is run
-    module _ {t′ : Tally} {h′ : Held} {line′ bits′ log′ : List ℕ} (r : PhaseRun b k t h racking line bits log t′ h′ line′ bits′ log′) where
+    module _ {t′ : Tally} {h′ : Held} {line′ bits′ log′ : List ℕ} (r : PhaseRun ends b k t h racking line bits log t′ h′ line′ bits′ log′) where
       abbrev made : List Pair
       made = take (k - t .moves) (plan racks (h .places))
 
@@ -132,7 +136,7 @@ module _ {racks : List Rack} {b k : ℕ} {h₀ : Held} {t : Tally} {h : Held} {l
         ]
 
         -- the next turn
-        pub turn-next : Turn racks b k h₀ t′ h′ line′ bits′ log′
+        pub turn-next : Turn racks ends b k h₀ t′ h′ line′ bits′ log′
         turn-next =
             record {
               within = omega (arith, moves-are, made-long);
@@ -145,10 +149,10 @@ module _ {racks : List Rack} {b k : ℕ} {h₀ : Held} {t : Tally} {h : Held} {l
               count = rw held-is (omega (arith, moves-are, aways-carried (s .legal) in-turn, s .count));
             }
           where
-            in-turn-all : InTurn racks (h .places) (take (k - t .moves) (queuedPlan 64 (rowsOf line bits)))
+            in-turn-all : InTurn racks (h .places) (take (k - t .moves) (queuedPlan 64 (rowsOf ends line bits)))
             in-turn-all = rw all-is in-turn
 
-            ready : t′ .moves < k → Ready racks (h′ .places) (rowsOf line′ bits′)
+            ready : t′ .moves < k → Ready racks (h′ .places) (rowsOf ends line′ bits′)
             ready o =
                 let q : made ≡ plan racks (h .places) = take-all (k - t .moves) (plan racks (h .places)) (omega (arith, moves-are, made-long)) in
                 rw (held-is, r .noted-are .line-is, r .noted-are .bits-are, all-is, q)
@@ -159,7 +163,7 @@ module _ {job : Job} {b : ℕ} {h : Held} {racking line bits log : List ℕ} (g 
   pub going-fixed : Fixed (racksOf job) racking
   going-fixed = record { spared = g .spared; small = g .opened .sound .small; few = sound-few job (g .opened .sound); filled = g .opened .filled }
 
-  pub turn-first : (k : ℕ) → Turn (racksOf job) b k h noCounts h line bits log
+  pub turn-first : (k : ℕ) → Turn (racksOf job) (job .ends) b k h noCounts h line bits log
   turn-first k =
       let z : k - 0 ≡ k = omega arith in
       record {
@@ -172,23 +176,3 @@ module _ {job : Job} {b : ℕ} {h : Held} {racking line bits log : List ℕ} (g 
         rest = rw z;
         count = omega arith;
       }
-
--- the turn that a job has come to, whatever job was begun with
-pub record Turning (b k : ℕ) (h₀ : Held) (racking line₀ bits₀ log₀ : List ℕ) (t : Tally) (h : Held) (line bits log : List ℕ) : Type 0 where
-  pub turn : (job : Job) → Going job b h₀ racking line₀ bits₀ log₀ → Turn (racksOf job) b k h₀ t h line bits log
-
-module _ {b k : ℕ} {h₀ : Held} {racking line₀ bits₀ log₀ : List ℕ} where
-  pub turning-first : Turning b k h₀ racking line₀ bits₀ log₀ noCounts h₀ line₀ bits₀ log₀
-  turning-first = record { turn = λ job g. turn-first g k }
-
-  -- some rack waits, and a phase is run
-  module _ {t : Tally} {h : Held} {line bits log : List ℕ} (s : Turning b k h₀ racking line₀ bits₀ log₀ t h line bits log) (l : t .moves < k) (w : getD bits 65 0 ≡ 0 → ⊥)
-      {t′ : Tally} {h′ : Held} {line′ bits′ log′ : List ℕ} (r : PhaseRun b k t h racking line bits log t′ h′ line′ bits′ log′) where
-    waits : (job : Job) → Going job b h₀ racking line₀ bits₀ log₀ → someAway (racksOf job) (h .places) ≡ true
-    waits job g = let y = s .turn job g .ready l in some-waits y (y .bounded .topped .small 65) w
-
-    pub turning-next : Turning b k h₀ racking line₀ bits₀ log₀ t′ h′ line′ bits′ log′
-    turning-next = record { turn = λ job g. turn-next (s .turn job g) (going-fixed g) l r (waits job g) }
-
-    pub turning-more : (job : Job) → Going job b h₀ racking line₀ bits₀ log₀ → t .moves < t′ .moves
-    turning-more job g = turn-more (s .turn job g) (going-fixed g) l r (waits job g)

@@ -57,6 +57,7 @@ pub fn note_moves(
 
 // One phase: its pairs are planned behind what the log has, and as many of them carried as are left of k moves; gives the tally with these.
 pub fn run_phase(
+    ends: &[u16; Job::MAX_RACKS],
     b: usize,
     k: usize,
     tally: Tally,
@@ -67,11 +68,11 @@ pub fn run_phase(
     bits: &mut [u64; bits::parts::WORDS],
     log: &mut [u16],
 ) -> Tally
-    requires { ⌜ Runnable b k tally (held (now places) (now cards)) (now racking) (now line) (now bits) (now log) ⌝ }
-    ensures { λ r. ⌜ PhaseRun b k tally (held (now (places .entry)) (now (cards .entry))) (now (racking .entry)) (now (line .entry)) (now (bits .entry)) (now (log .entry)) r (held (now (places .exit)) (now (cards .exit))) (now (line .exit)) (now (bits .exit)) (now (log .exit)) ⌝ }
+    requires { ⌜ Runnable (now ends) b k tally (held (now places) (now cards)) (now racking) (now line) (now bits) (now log) ⌝ }
+    ensures { λ r. ⌜ PhaseRun (now (ends .entry)) b k tally (held (now (places .entry)) (now (cards .entry))) (now (racking .entry)) (now (line .entry)) (now (bits .entry)) (now (log .entry)) r (held (now (places .exit)) (now (cards .exit))) (now (line .exit)) (now (bits .exit)) (now (log .exit)) ⌝ }
 {
     let low = 2 * tally.moves;
-    let planned = planning::plan_phase(line, bits, log, low);
+    let planned = planning::plan_phase(ends, line, bits, log, low);
     let left = k - tally.moves;
     let made = planning::smaller(planned, left);
     let high = low + 2 * made;
@@ -100,7 +101,18 @@ pub fn run_moves(
         if bits[line::WAITING] == 0 {
             return tally;
         }
-        tally = run_phase(b, k, tally, places, cards, racking, line, bits, log);
+        tally = run_phase(
+            &job.ends,
+            b,
+            k,
+            tally,
+            places,
+            cards,
+            racking,
+            line,
+            bits,
+            log,
+        );
     }
     tally
 }

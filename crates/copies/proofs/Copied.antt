@@ -57,9 +57,9 @@ module _ (places lent : List ℕ) where
   fits-room e = ltb-false (length lent) (2 * length (copyList places)) (not-on e)
 
   -- the list is written, and the tally has its copies
-  pub here-done : fits (length lent) places ≡ true → (a : Answer) (t : Tally) (n : ℕ) (after : List ℕ) → a ≡ answer 0 t → t ≡ plusCopies n noCounts → AllWritten places lent n after → listedOf a after ≡ listedHere places lent
+  pub here-done : fits (length lent) places ≡ true → (a : Answer) (t : Tally) (n : ℕ) (seen after marks : List ℕ) → a ≡ answer 0 t → t ≡ plusCopies n noCounts → AllWritten places lent seen n after marks → listedOf a after ≡ listedHere places lent
   unfolding listedHere fits tooShort putCopies
-  here-done e a t n after ea et w =
+  here-done e a t n seen after marks ea et w =
       let z : n ≡ length (copyList places) = w .count-is in
       listed-done (first ((tooShort lent (flat (copyList places)), 13) ∷ [])) (copiesOf (length (copyList places))) (flat (copyList places)) lent a t after ea (et ∙ rw (z, zero-add)) (w .list-is)
       (first-later _ 13 [] (rw (length-flat (copyList places)) (not-on e)) ∙ first-none)

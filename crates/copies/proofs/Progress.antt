@@ -5,8 +5,7 @@ use mathlib.Core.List.{List, [], _++_, append-assoc, append-nil}
 use Prim.Native.Nat.{ℕ, suc, _+_, _-_, _≤_, _<_}
 use native.Mathlib.Omega.{arith}
 use native.Mathlib.Numerals.{add-one}
-use native.Mathlib.Decide.{decLt}
-use lib.ListN.{length, getD, replicate, length-append, getD-replicate, List·getD-eq-default, length-replicate}
+use lib.ListN.{length, getD, length-append}
 use borrow.Author.Tests.{eq-eqb, ne-eqb}
 use Rattle.counting.specs.Tests.{_or_}
 use Rattle.counting.specs.Lists.{Pair, join, each, among}
@@ -14,29 +13,12 @@ use Rattle.counting.proofs.Tests.{by-test}
 use Rattle.counting.proofs.Members.{among-append}
 use Rattle.factors.specs.Copies.{factor, factorsFrom, factors, copies, copyList}
 use Rattle.factors.specs.parts.Chains.{Chained}
-use Rattle.factors.specs.parts.Walks.{walked, walkCount, Marked, Walked}
-use Rattle.copies.specs.parts.Writes.{putCopies, Unmarked, due, Counted, Written, AllWritten}
+use Rattle.factors.specs.parts.Walks.{LISTED, walked, walkCount, Marked, Unmarked, Walked}
+use Rattle.copies.specs.parts.Writes.{putCopies, due, Counted, CopiesWritten, AllWritten}
 use Rattle.factors.proofs.Costs.{list-most}
 use Rattle.factors.proofs.Walking.{mark-none}
 use Rattle.factors.proofs.Walked.{length-walked}
 use Rattle.copies.proofs.Writing.{put-none, put-append}
-
--- marks as they are made
-pub unmarked-first : (mark : ℕ) → mark ≢ 0 → (seen : List ℕ) → seen ≡ replicate 4096 0 → Unmarked mark seen
-unmarked-first mark q seen e = rw e (record {
-  none = λ v i. q (sym i ∙ zeros v);
-  long = length-replicate {A = ℕ} 4096 0;
-})
-  where
-    zeros : (v : ℕ) → getD (replicate {A = ℕ} 4096 0) v 0 ≡ 0
-    zeros v = elim (decLt v 4096) [ yes l ↦ getD-replicate 4096 v 0 0 l | no l ↦ let r : length (replicate {A = ℕ} 4096 0) ≤ v = omega arith in List·getD-eq-default (replicate 4096 0) 0 r ]
-
--- marks of another kind
-pub unmarked-other : (mark other : ℕ) → other ≢ mark → (slots before after : List ℕ) → Unmarked mark before → Marked other slots before after → Unmarked mark after
-unmarked-other mark other q slots before after u m = record {
-  none = λ v. by-test (among v slots) (λ e i. q (sym (m .marks v ∙ rw e) ∙ i)) (λ e i. u .none v (sym (m .marks v ∙ rw e) ∙ i));
-  long = m .long ∙ u .long;
-}
 
 -- what is due at slot k: nothing where it is marked
 pub due-none : (places seen : List ℕ) (mark k : ℕ) → getD seen k 0 ≡ mark → due places mark seen k ≡ []
@@ -76,7 +58,7 @@ module _ (places : List ℕ) (mark k : ℕ) (start seen : List ℕ) (made : List
   progress-end e = let z : length places - k ≡ 0 = omega arith in rw z at (p .split) ∙ append-nil made
 
   -- the copies due at slot k come next in the list
-  module _ (fresh : Unmarked mark start) (low : k < length places) where
+  module _ (fresh : Unmarked places mark start) (low : k < length places) where
     abbrev now-due : List ℕ
     now-due = due places mark seen k
 
@@ -89,7 +71,7 @@ module _ (places : List ℕ) (mark k : ℕ) (start seen : List ℕ) (made : List
         let d : due places mark seen k ≡ [] = due-none places seen mark k (p .marks .marks k ∙ rw e) in
         rw (d, i, e, add-one k, no-copies places, append-nil))
         (λ e.
-        let d : due places mark seen k ≡ factor places k = due-factor places seen mark k (λ q. fresh .none k (sym (p .marks .marks k ∙ rw e) ∙ q)) in
+        let d : due places mark seen k ≡ factor places k = due-factor places seen mark k (λ q. fresh .none k low (sym (p .marks .marks k ∙ rw e) ∙ q)) in
         rw (d, i, e, add-one k) (sym (append-assoc made (copies places (factor places k)) _)))
 
     -- they are not more than the list has
@@ -132,7 +114,7 @@ module _ (places : List ℕ) (mark k at : ℕ) (start seen : List ℕ) (p : Coun
   pub counting-end : k ≡ length places → at ≡ length (copyList places)
   counting-end e = p .count ∙ ap length (sym (progress-end places mark k start seen (p .made) (p .progress) e))
 
-  module _ (fresh : Unmarked mark start) (low : k < length places) where
+  module _ (fresh : Unmarked places mark start) (low : k < length places) where
     -- there is room for those of slot k
     pub counting-room : at + length (copies places (due places mark seen k)) ≤ length (copyList places)
     counting-room = omega (arith, p .count, progress-room places mark k start seen (p .made) (p .progress) fresh low)
@@ -178,16 +160,17 @@ pub listing-start : (places start list : List ℕ) (mark : ℕ) → Listing plac
 unfolding counting-start
 listing-start places start list mark = record { counting = counting-start places start mark; wrote = sym (put-none list 0) }
 
-module _ (places : List ℕ) (mark k at : ℕ) (start seen list after : List ℕ) (p : Listing places mark k at start seen list after) where
-  -- behind the last slot all are
-  pub listing-end : k ≡ length places → AllWritten places list at after
-  listing-end e = record {
-    count-is = counting-end places mark k at start seen (p .counting) e;
-    list-is = p .wrote ∙ ap (putCopies list 0) (sym (progress-end places mark k start seen (p .counting .made) (p .counting .progress) e));
-  }
+-- behind the last slot all are
+pub listing-end : (places : List ℕ) (k at : ℕ) (start seen list after : List ℕ) → Listing places LISTED k at start seen list after → k ≡ length places → AllWritten places list start at after seen
+listing-end places k at start seen list after p e = record {
+  count-is = counting-end places LISTED k at start seen (p .counting) e;
+  list-is = p .wrote ∙ ap (putCopies list 0) (sym (progress-end places LISTED k start seen (p .counting .made) (p .counting .progress) e));
+  marked = record { slots = p .counting .progress .done; marked = p .counting .progress .marks };
+}
 
+module _ (places : List ℕ) (mark k at : ℕ) (start seen list after : List ℕ) (p : Listing places mark k at start seen list after) where
   -- those of slot k too
-  pub listing-more : Unmarked mark start → k < length places → (at₂ : ℕ) (after₂ seen₂ : List ℕ) → Written places mark k at after seen at₂ after₂ seen₂ → Listing places mark (k + 1) at₂ start seen₂ list after₂
+  pub listing-more : Unmarked places mark start → k < length places → (at₂ : ℕ) (after₂ seen₂ : List ℕ) → CopiesWritten places mark k at after seen at₂ after₂ seen₂ → Listing places mark (k + 1) at₂ start seen₂ list after₂
   unfolding counting-more
   listing-more fresh low at₂ after₂ seen₂ w = record {
     counting = counting-more places mark k at start seen (p .counting) fresh low at₂ seen₂ (w .counted);
@@ -197,7 +180,7 @@ module _ (places : List ℕ) (mark k at : ℕ) (start seen list after : List ℕ
   }
 
 -- slot k is marked: nothing is written
-pub written-none : (places seen list : List ℕ) (mark k at : ℕ) → getD seen k 0 ≡ mark → Written places mark k at list seen at list seen
+pub written-none : (places seen list : List ℕ) (mark k at : ℕ) → getD seen k 0 ≡ mark → CopiesWritten places mark k at list seen at list seen
 written-none places seen list mark k at e = record {
   counted = counted-none places seen mark k at e;
   list-is = sym (put-none list at) ∙ ap (putCopies list at) (sym (marked-none places seen mark k e));

@@ -5,6 +5,7 @@ ghost use Rattle.answers.specs.Answers.{plusCopies, listedOf};
 ghost use lib.ListN.{length};
 ghost use Rattle.counting.specs.Tests.{_or_};
 ghost use Rattle.factors.specs.parts.Chains.{Chained};
+ghost use Rattle.factors.specs.parts.Walks.{COUNTED, LISTED, SomeMarked, Unmarked};
 ghost use Rattle.racks.specs.Job.{Fit};
 ghost use Rattle.tables.specs.parts.Tables.{awayBy};
 ghost use Rattle.factors.specs.Copies.{copyList};
@@ -65,29 +66,33 @@ pub fn add_copies(tally: Tally, count: usize) -> Tally
     sum
 }
 
-// The copy list, from the front of a lent list that has room for it; the tally with its copies.
-pub fn list_copies(places: &[u16], list: &mut [u16], tally: Tally) -> Tally
-    requires { ⌜ Chained (now places) × (2 * length (copyList (now places)) ≤ length (now list)) × (tally .copies ≡ 0) ⌝ }
+// The copy list, from the front of a lent list that has room for it; the tally with its copies. Marks of other kinds stay.
+pub fn list_copies(
+    places: &[u16],
+    seen: &mut [u8; Job::MAX_SLOTS],
+    list: &mut [u16],
+    tally: Tally,
+) -> Tally
+    requires { ⌜ Chained (now places) × Unmarked (now places) LISTED (now seen) × (2 * length (copyList (now places)) ≤ length (now list)) × (tally .copies ≡ 0) ⌝ }
     ensures counts { λ r. ⌜ r ≡ plusCopies (length (copyList (now (places .entry)))) tally ⌝ }
     ensures copies { λ _. ⌜ now (list .exit) ≡ putCopies (now (list .entry)) 0 (copyList (now (places .entry))) ⌝ }
+    ensures marks { λ _. ⌜ SomeMarked LISTED (now (seen .entry)) (now (seen .exit)) ⌝ }
 {
     let mut sources = [Job::FREE; Job::SOURCES];
     walks::fill_sources(places, &mut sources);
-    let mut seen = [0u8; Job::MAX_SLOTS];
-    let count = lists::write_factors(places, &sources, &mut seen, list);
+    let count = lists::write_factors(places, &sources, seen, list);
     add_copies(tally, count)
 }
 
 // The copies of an accepted table with nothing away: where the lent list has room for them, they are listed in it.
-pub fn list_counted(places: &[u16], lent: &mut [u16]) -> Answer
-    requires { ⌜ Chained (now places) ⌝ }
+pub fn list_counted(places: &[u16], seen: &mut [u8; Job::MAX_SLOTS], lent: &mut [u16]) -> Answer
+    requires { ⌜ Chained (now places) × Unmarked (now places) COUNTED (now seen) × Unmarked (now places) LISTED (now seen) ⌝ }
     ensures { λ r. ⌜ listedOf r (now (lent .exit)) ≡ listedHere (now (places .entry)) (now (lent .entry)) ⌝ }
 {
     let mut sources = [Job::FREE; Job::SOURCES];
     walks::fill_sources(places, &mut sources);
-    let mut seen = [0u8; Job::MAX_SLOTS];
-    if lists::has_room(places, &sources, &mut seen, lent.len()) {
-        let written = lists::write_factors(places, &sources, &mut seen, lent);
+    if lists::has_room(places, &sources, seen, lent.len()) {
+        let written = lists::write_factors(places, &sources, seen, lent);
         let none = Tally::none();
         let tally = add_copies(none, written);
         return Answer::done(tally);
@@ -95,7 +100,7 @@ pub fn list_counted(places: &[u16], lent: &mut [u16]) -> Answer
     Answer::of(13)
 }
 
-// The copy list, by the job.
+// The copy list, by the job. Once nothing is away, the racking serves as marks.
 pub fn copy_job(job: Job, places: &[u16], lent: &mut [u16]) -> Answer
     requires { ⌜ Fit job ⌝ }
     ensures { λ r. ⌜ listedOf r (now (lent .exit)) ≡ copiedBy job (now (places .entry)) (now (lent .entry)) ⌝ }
@@ -108,5 +113,5 @@ pub fn copy_job(job: Job, places: &[u16], lent: &mut [u16]) -> Answer
     if some_away(&racking, places) {
         return Answer::of(12);
     }
-    list_counted(places, lent)
+    list_counted(places, &mut racking, lent)
 }

@@ -15,8 +15,7 @@ use Rattle.counting.proofs.Checks.Clear.{none, more}
 use Rattle.racks.specs.Limits.{FREE}
 use Rattle.racks.specs.Racks.{Rack, ofCaps, rackAt, users, width, total, base, slots, endsBy, rackOf, spareOf, isUser}
 use Rattle.racks.specs.Table.{free, names}
-use Rattle.racks.specs.Numbers.{badCount, badBytes, tooLarge, badSize, badPlaces, badCards, badEntry, badEntries, repeats, badTwice, tableChecks, cardChecks}
-use Rattle.racks.specs.Job.{rackChecks}
+use Rattle.racks.specs.Numbers.{badCount, badBytes, tooLarge, badSize, badPlaces, badCards, badEntry, badEntries, repeats, badTwice, tableChecks, cardChecks, rackChecks, placesChecks}
 use Rattle.racks.specs.parts.Legal.{Legal}
 use Rattle.racks.proofs.Legal.{table-clear}
 use Rattle.racks.proofs.LegalTable.{legal, legal-checks}
@@ -38,9 +37,9 @@ module _ (racks : List Rack) (b : ℕ) (places cards : List ℕ) where
         go : Clear (cardChecks racks b places cards) → first (rackChecks racks) ≡ 0
         go (more n (more _ (more s _))) = clear-first (more n (more s none))
 
-    -- 1 to 6 without 2 do not refuse the table
+    -- 1 and 3 to 6 do not refuse the table
     pub accepted-table : first (tableChecks racks places) ≡ 0
-    unfolding cardChecks tableChecks
+    unfolding cardChecks tableChecks placesChecks rackChecks
     accepted-table = go clear
       where
         go : Clear (cardChecks racks b places cards) → first (tableChecks racks places) ≡ 0
@@ -60,7 +59,7 @@ module _ (racks : List Rack) (b : ℕ) (places cards : List ℕ) where
 
     -- any other legal table, with cards of the same length, is accepted
     pub accepted-again : (places′ cards′ : List ℕ) → Legal racks places′ → length cards′ ≡ length cards → first (cardChecks racks b places′ cards′) ≡ 0
-    unfolding cardChecks tableChecks badCards
+    unfolding cardChecks tableChecks placesChecks rackChecks badCards
     accepted-again places′ cards′ l e = go clear (table-clear racks places′ (legal-checks racks places′ accepted-racks l))
       where
         go : Clear (cardChecks racks b places cards) → Clear (tableChecks racks places′) → first (cardChecks racks b places′ cards′) ≡ 0

@@ -4,7 +4,7 @@ use Prim.Native.Nat.{ℕ}
 use native.Mathlib.Omega.{arith}
 use Rattle.counting.specs.Checks.{Check, first}
 use Rattle.racks.specs.Racks.{Rack}
-use Rattle.racks.specs.Numbers.{tableChecks, cardChecks}
+use Rattle.racks.specs.Numbers.{tableChecks, cardChecks, rackChecks, placesChecks}
 use Rattle.moves.specs.Moves.{endChecks}
 use Rattle.demands.specs.Rows.{Row, Given}
 use Rattle.demands.specs.Conditions.{tableRows, cardRows, endRows}
@@ -15,7 +15,7 @@ module _ (racks : List Rack) (places : List ℕ) where
   -- a table's checks, and more behind them
   module _ (ds : List Check) (more : List Row) (g : Given (first ds) more) where
     pub given-table : Given (first (tableChecks racks places ++ ds)) (tableRows racks places ++ more)
-    unfolding tableChecks
+    unfolding tableChecks placesChecks rackChecks
     given-table =
         given-row _ (λ e. omega arith) (says-1 _)
         (given-row _ (λ e. omega arith) (says-3 racks)
@@ -36,7 +36,7 @@ module _ (racks : List Rack) (places : List ℕ) where
 
   -- a table's checks alone, and with cards
   pub given-table-only : Given (first (tableChecks racks places)) (tableRows racks places)
-  unfolding tableChecks
+  unfolding tableChecks placesChecks rackChecks
   given-table-only = given-table [] [] given-none
 
   pub given-cards-only : (b : ℕ) (cards : List ℕ) → Given (first (cardChecks racks b places cards)) (cardRows racks b places cards)

@@ -24,7 +24,7 @@ use Rattle.moves.proofs.Ends.{ends-allowed}
 use Rattle.tables.proofs.Tables.{cards-marked}
 use Rattle.moves.proofs.Phases.{budget-in-turn, budget-length}
 use Rattle.moves.proofs.FirstFit.{first-fit}
-use Rattle.demands.specs.Calls.{Call, called, asks, makes, after, made, counted}
+use Rattle.demands.specs.Calls.{Call, called, asks, makes, heldAfter, made, counted}
 use Rattle.demands.specs.Calls.Call.{single, atMost}
 use Rattle.demands.proofs.Acceptance.{accepted-legal, accepted-long, accepted-again}
 
@@ -111,11 +111,11 @@ module _ (racks : List Rack) (b : ℕ) (h : Held) where
 -- so with all calls
 pub record CallsDone (racks : List Rack) (b : ℕ) (h : Held) (calls : List Call) : Type 0 where
   pub in-turn : InTurn racks (h .places) (made racks b calls h)
-  pub held-is : after racks b calls h ≡ carried b (made racks b calls h) h
+  pub held-is : heldAfter racks b calls h ≡ carried b (made racks b calls h) h
   pub counts : counted racks b calls h ≡ length (made racks b calls h)
 
 pub calls-done : {racks : List Rack} {b : ℕ} {h : Held} (calls : List Call) → Start racks b h → CallsDone racks b h calls
-unfolding after made counted carriedPlaces carriedCards
+unfolding heldAfter made counted carriedPlaces carriedCards
 calls-done [] s = record { in-turn = stop; held-is = refl; counts = refl }
 calls-done {racks} {b} {h} (call ∷ calls) s =
     let one = call-done call s in
@@ -130,14 +130,14 @@ calls-done {racks} {b} {h} (call ∷ calls) s =
     }
 
 -- after all calls the table is accepted
-pub start-after : {racks : List Rack} {b : ℕ} {h : Held} (calls : List Call) → Start racks b h → Start racks b (after racks b calls h)
+pub start-after : {racks : List Rack} {b : ℕ} {h : Held} (calls : List Call) → Start racks b h → Start racks b (heldAfter racks b calls h)
 start-after calls s = let all = calls-done calls s in subst (Start _ _) (sym (all .held-is)) (start-carried s (all .in-turn))
 
 -- the moves of calls and further calls
 pub made-append : (racks : List Rack) (b : ℕ) (h : Held) (former later : List Call)
-    → made racks b (former ++ later) h ≡ made racks b former h ++ made racks b later (after racks b former h)
-unfolding made after
+    → made racks b (former ++ later) h ≡ made racks b former h ++ made racks b later (heldAfter racks b former h)
+unfolding made heldAfter
 made-append racks b h [] later = refl
 made-append racks b h (call ∷ former) later =
     let h′ : Held = called racks b h call .held in
-    rw (made-append racks b h′ former later) (sym (append-assoc (makes racks b h call) (made racks b former h′) (made racks b later (after racks b former h′))))
+    rw (made-append racks b h′ former later) (sym (append-assoc (makes racks b h call) (made racks b former h′) (made racks b later (heldAfter racks b former h′))))

@@ -1,4 +1,4 @@
--- 01's case 1 for the calls that `specs/Paper` does not name, and the smallest job, by computation. Assumes nothing.
+-- Case 1 of the rules for the calls that `specs/Paper` does not name, and the smallest job, by computation. Assumes nothing.
 use mathlib.Core.Path.{_≡_, refl}
 use mathlib.Core.Bool.{true}
 use mathlib.Core.List.{List, [], _∷_}
@@ -12,12 +12,12 @@ use Rattle.counting.specs.Lists.{tabulate, join, each, pairUp, flat, matching, 
 use Rattle.counting.specs.Checks.{first}
 use Rattle.racks.specs.Racks.{ofCaps, rackAt, users, width, total, base, slots, endsBy, rackOf, spareOf, isUser}
 use Rattle.racks.specs.Table.{free, settled, rackTo, onRack, away, aways, awayTo, bound, owes, freeOn, names}
-use Rattle.racks.specs.Numbers.{badCount, badBytes, tooLarge, badSize, badPlaces, badCards, badEntry, badEntries, repeats, badTwice, someAway, tooShort, tableChecks, cardChecks}
+use Rattle.racks.specs.Numbers.{badCount, badBytes, tooLarge, badSize, badPlaces, badCards, badEntry, badEntries, repeats, badTwice, someAway, tooShort, tableChecks, cardChecks, rackChecks, placesChecks}
 use Rattle.plans.specs.Plan.{other, sources, lowest, granted, openSlots, room, arrivals, planFor, plan, planChecks, planned}
 use Rattle.moves.specs.Blocks.{block, putBlock, blank}
 use Rattle.moves.specs.Phases.{phasesFrom, phases, budget, budgeted}
-use Rattle.factors.specs.Copies.{next, source, after, onward, back, onCycle, head, factor, factorsFrom, factors, shift, cycle, copies, copyList}
-use Rattle.shuffle.specs.Shuffle.{taken, laid, runCopies, brought, isNamed, lastEntry, lastCard, settledHeld}
+use Rattle.factors.specs.Copies.{next, source, following, onward, back, onCycle, head, factor, factorsFrom, factors, shift, cycle, copies, copyList}
+use Rattle.shuffle.specs.Shuffle.{taken, laid, runCopies, brought, isNamed, lastEntry, lastCard, settledHeld, copyMade}
 use Rattle.runs.specs.Run.{gathered, hasPairs, counts, ran}
 use Rattle.demands.specs.Paper.{caps1, held1}
 
@@ -65,5 +65,5 @@ pub record Cases : Type 0 where
   pub budgeted-none : budgeted (ofCaps []) 1 held10 4 ≡ refused10
 
 pub cases : Cases
-unfolding _and_ _or_ sum count some select seek tabulate join each pairUp flat matching among last first ofCaps rackAt users width total base slots endsBy rackOf spareOf isUser free settled rackTo onRack away aways awayTo bound owes freeOn names badCount badBytes tooLarge badSize badPlaces badCards badEntry badEntries repeats badTwice someAway tooShort tableChecks cardChecks other sources lowest granted openSlots room arrivals planFor plan planChecks planned block putBlock blank movedPlaces movedCards carriedPlaces carriedCards phasesFrom phases budget budgeted next source after onward back onCycle head factor factorsFrom factors shift cycle copies copyList taken laid runCopies brought isNamed lastEntry lastCard settledHeld gathered hasPairs counts ran
+unfolding _and_ _or_ sum count some select seek tabulate join each pairUp flat matching among last first ofCaps rackAt users width total base slots endsBy rackOf spareOf isUser free settled rackTo onRack away aways awayTo bound owes freeOn names badCount badBytes tooLarge badSize badPlaces badCards badEntry badEntries repeats badTwice someAway tooShort tableChecks placesChecks rackChecks cardChecks other sources lowest granted openSlots room arrivals planFor plan planChecks planned block putBlock blank movedPlaces movedCards carriedPlaces carriedCards phasesFrom phases budget budgeted next source following onward back onCycle head factor factorsFrom factors shift cycle copies copyList taken laid copyMade runCopies brought isNamed lastEntry lastCard settledHeld gathered hasPairs counts ran
 cases = record { ran1 = refl; phases1 = refl; plan-is = refl; away1 = refl; aways1 = refl; ran10 = refl; budgeted10 = refl; ran-none = refl; budgeted-none = refl }

@@ -11,7 +11,7 @@ use borrow.Author.Tests.{ne-eqb}
 use Rattle.counting.specs.Lists.{Pair}
 use Rattle.counting.specs.Checks.{first}
 use Rattle.counting.proofs.Stores.{take-front}
-use Rattle.racks.specs.Racks.{Rack, base, slots, rackOf}
+use Rattle.racks.specs.Racks.{Rack, ofCaps, base, slots, rackOf}
 use Rattle.racks.proofs.Caps.{length-caps, users-caps, slots-caps}
 use Rattle.racks.proofs.Geometry.{rack-lt, rack-in, rack-is}
 use Rattle.tables.specs.Check.{checked}
@@ -23,7 +23,7 @@ use Rattle.factors.specs.Copies.{copyChecks, copied}
 use Rattle.shuffle.specs.Shuffle.{shuffleChecks, shuffled}
 use Rattle.runs.specs.Run.{ran}
 use Rattle.answers.specs.declared.Answer.{Answer}
-use Rattle.jobfile.specs.Numeral.{numeral, groups, numerals}
+use Rattle.jobfile.specs.Numeral.{numeral, groups, numerals, lastGroup}
 use Rattle.jobfile.specs.File.{readN, readM, fileRacks, fileBytes, filePlaces, fileCards, fileChecks, readChecks, read}
 use Rattle.jobfile.proofs.Legal.{file-legal}
 use Rattle.jobreader.specs.Reading.{ahead, JobRead}
@@ -37,7 +37,7 @@ use Rattle.demands.specs.Accepted.{Accepted}
 use Rattle.demands.specs.Rows.{None, Holds, Given, _then_}
 use Rattle.demands.specs.FileConditions.{fileRows, NoRoom, FileTooLarge}
 use Rattle.demands.specs.Demand1.{Demand1}
-use Rattle.demands.proofs.Acceptance.{accepted-legal}
+use Rattle.demands.proofs.Acceptance.{accepted-legal, accepted-table}
 use Rattle.demands.proofs.Rows.{given-none, given-row, holds-some, none-left, none-right}
 use Rattle.demands.proofs.Says.{says-or, says-lt, says-user, says-7, says-12, says-13}
 use Rattle.demands.proofs.CallRows.{given-table, given-cards, given-table-only, given-cards-only, given-ends}
@@ -114,7 +114,12 @@ accepted-read file caps places z =
       take-front places (filePlaces file) (slots (fileRacks file)) long (not-below (λ l. room (inr l))),
     ) a
 
--- and that of a job read from a reader's place on
+-- and what is accepted with its cards passes the table check
+passes-check : (caps : List ℕ) (b : ℕ) (h : Held) → Accepted caps b h → checked (ofCaps caps) (h .places) .number ≡ 0
+unfolding checked
+passes-check caps b h a = accepted-table (ofCaps caps) b (h .places) (h .cards) a
+
+-- the number of a job read from a reader's place on
 given-job : (reader : Reader) (caps places : List ℕ) (job : JobFile) (caps′ places′ : List ℕ) → JobRead reader caps places job caps′ places′
     → Given (job .answer .number) (fileRows (ahead reader) then (17, NoRoom (ahead reader) caps places) ∷ [])
 given-job reader caps places job caps′ places′ r =
@@ -122,7 +127,7 @@ given-job reader caps places job caps′ places′ r =
 
 -- nothing lies ahead of a place behind the end, and no numeral is in an empty file
 behind : (reader : Reader) (caps places : List ℕ) → length (now (reader .file)) ≤ reader .at → read (ahead reader) caps places .answer .number ≡ 15
-unfolding first ahead read readChecks fileChecks readN numerals numeral groups
+unfolding first ahead read readChecks fileChecks readN numerals numeral groups lastGroup
 behind reader caps places l = rw (drop-of-length-le (now (reader .file)) {i = reader .at} l)
 
 pub demand1 : Demand1
@@ -150,6 +155,7 @@ demand1 =
       run-no-refusal = no-refusal;
       shelve-runs = runs;
       read-accepted = accepted-read;
+      accepted-check = passes-check;
       capacities = λ caps. (length-caps caps, slots-caps caps);
       users-lent = users-caps;
       rack = rack-of;

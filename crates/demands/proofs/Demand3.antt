@@ -12,16 +12,16 @@ use Rattle.moves.specs.Moves.{Held, carried}
 use Rattle.moves.proofs.Carry.{in-turn-take, in-turn-moving, stands-carried, owes-carried}
 use Rattle.runs.proofs.Owing.{awaits-owes}
 use Rattle.demands.specs.Accepted.{Accepted}
-use Rattle.demands.specs.Calls.{Call, after, made}
+use Rattle.demands.specs.Calls.{Call, heldAfter, made}
 use Rattle.demands.specs.Demand3.{Demand3, point}
 use Rattle.demands.proofs.Calls.{Start, start-legal, calls-done, start-after, made-append, budget-done, single-done, refused-none, refused-same}
 use Rattle.demands.proofs.Points.{names-once, turn-at, some-accepted, start-point, point-number, point-move, point-away, point-falls, point-bytes}
 
 -- between two calls the table and the cards are as after the moves of the former
 between : {racks : List Rack} {b : ℕ} {h : Held} (s : Start racks b h) (calls former later : List Call) → calls ≡ former ++ later
-    → after racks b former h ≡ point racks b h calls (length (made racks b former h))
+    → heldAfter racks b former h ≡ point racks b h calls (length (made racks b former h))
 between {racks} {b} {h} s calls former later e =
-    let split : made racks b calls h ≡ made racks b former h ++ made racks b later (after racks b former h) =
+    let split : made racks b calls h ≡ made racks b former h ++ made racks b later (heldAfter racks b former h) =
     ap (λ (cs : List Call). made racks b cs h) e ∙ made-append racks b h former later in
     let all : take (length (made racks b former h)) (made racks b calls h) ≡ made racks b former h =
     ap (take (length (made racks b former h))) split ∙ take-at (made racks b former h) _ (length (made racks b former h)) refl in
@@ -49,9 +49,9 @@ from-start {racks} {b} {h} calls s =
       falls = λ n m. point-falls s t n m;
       counts = all .counts;
       budget-makes = λ k. budget-done k (start-after calls s);
-      single-makes = λ from to. single-done racks b (after racks b calls h) from to;
-      refused-makes = λ call f. refused-none racks b (after racks b calls h) call f;
-      refused-keeps = λ call f. refused-same racks b (after racks b calls h) call f;
+      single-makes = λ from to. single-done racks b (heldAfter racks b calls h) from to;
+      refused-makes = λ call f. refused-none racks b (heldAfter racks b calls h) call f;
+      refused-keeps = λ call f. refused-same racks b (heldAfter racks b calls h) call f;
     }
 
 -- **Demand 3.** Every accepted start, and every list of calls

@@ -14,7 +14,7 @@ use Rattle.shuffle.specs.Home.{Home}
 use Rattle.shuffle.proofs.Homes.{home-carried, home-one}
 use Rattle.runs.specs.Run.{gathered, ran}
 use Rattle.demands.specs.Accepted.{Accepted}
-use Rattle.demands.specs.Calls.{Call, after}
+use Rattle.demands.specs.Calls.{Call, heldAfter}
 use Rattle.demands.specs.Demand2.{Shuffle}
 use Rattle.demands.specs.Homes.{Gathers, Homes}
 use Rattle.demands.proofs.Acceptance.{accepted-small}
@@ -30,7 +30,7 @@ module _ {racks : List Rack} {b : ℕ} {h : Held} (s : Start racks b h) (small :
   moved-home g = home-carried racks b h (start-legal s) small (start-long s) (g .moving) (moved-shuffle g .home)
 
   -- a whole run after any calls
-  after-run : (calls : List Call) → ran racks b (after racks b calls h) .held ≡ ran racks b h .held
+  after-run : (calls : List Call) → ran racks b (heldAfter racks b calls h) .held ≡ ran racks b h .held
   after-run calls =
       let all = calls-done calls s in
       let later = ran-home (start-carried s (all .in-turn)) small in

@@ -24,7 +24,7 @@ use Rattle.moves.proofs.Phases.{Run, phases-run, phases-in-turn, aways-some}
 use Rattle.moves.proofs.Phases.Run.{over, phase}
 use Rattle.moves.proofs.FirstFit.{first-fit}
 use Rattle.moves.proofs.Order.{disjoint-pairs, any-order, perm-in-turn}
-use Rattle.demands.specs.Calls.{after, singles, AllAccepted}
+use Rattle.demands.specs.Calls.{heldAfter, singles, AllAccepted}
 use Rattle.demands.specs.Demand2.{Phase}
 use Rattle.demands.proofs.Calls.{Start, start-legal, start-long, start-carried}
 use Rattle.demands.proofs.Points.{allowed-number}
@@ -66,7 +66,7 @@ module _ {racks : List Rack} {b : ℕ} {h : Held} (s : Start racks b h) where
   same-left ms p =
       sym (any-order (record { places-long = start-legal s .long; cards-long = start-long s }) (plan-apart racks (h .places)) (plan-allowed racks (h .places)) p)
 
-  in-any-order : (ms : List Pair) → List·Permᴰ (plan racks (h .places)) ms → AllAccepted racks b h ms × (after racks b (singles ms) h ≡ carried b ms h)
+  in-any-order : (ms : List Pair) → List·Permᴰ (plan racks (h .places)) ms → AllAccepted racks b h ms × (heldAfter racks b (singles ms) h ≡ carried b ms h)
   in-any-order ms p = singles-done s (perm-in-turn (start-legal s) (plan-apart racks (h .places)) (plan-allowed racks (h .places)) p)
 
   -- the plan of a table, asked for or carried

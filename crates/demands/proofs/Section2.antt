@@ -20,7 +20,7 @@ use Rattle.factors.proofs.Factors.{factors-lowest, factors-ascend, factors-once
 use Rattle.factors.proofs.Costs.{copies-shift, copies-cycle, cost-shift, cost-cycle, cost-settled, list-most}
 use Rattle.factors.proofs.Counted.{list-count}
 use Rattle.shuffle.proofs.Bytes.{brought-home}
-use Rattle.demands.specs.Section2.{Leads, links, Factor, CopyList}
+use Rattle.demands.specs.Section2.{Leads, links, Factor, Redistribution}
 use Rattle.demands.specs.Section2.Factor.{isShift, isCycle, isSettled}
 
 -- back to front is the chain's copies, the last first
@@ -88,7 +88,7 @@ module _ {places : List ℕ} (ok : Chained places) where
       rw e whole
 
   -- the copy list
-  pub copy-list : CopyList places
+  pub copy-list : Redistribution places
   unfolding copyList
   copy-list =
       record {

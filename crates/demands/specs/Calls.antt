@@ -30,9 +30,9 @@ unfoldable pub makes : List Rack → ℕ → Held → Call → List Pair
 makes racks b h call = pick (done (called racks b h call .answer .number)) (asks racks h call) []
 
 -- the table and the cards after all calls
-unfoldable pub after : List Rack → ℕ → List Call → Held → Held
-after racks b [] h = h
-after racks b (call ∷ calls) h = after racks b calls (called racks b h call .held)
+unfoldable pub heldAfter : List Rack → ℕ → List Call → Held → Held
+heldAfter racks b [] h = h
+heldAfter racks b (call ∷ calls) h = heldAfter racks b calls (called racks b h call .held)
 
 -- the moves that all calls make
 unfoldable pub made : List Rack → ℕ → List Call → Held → List Pair

@@ -1,4 +1,4 @@
--- "Numbers given back": the conditions of 01's table as propositions, in its words and order, and the rows of each call. Assumes nothing: these are definitions.
+-- "Numbers given back": the conditions of the rules' table as propositions, in its words and order, and the rows of each call. Assumes nothing: these are definitions.
 -- N is `length racks`, m_p is `users racks p`, S is `slots racks`, entry g is `dest places g`, the rack of a slot is `rackOf racks`.
 use mathlib.Core.Path.{_≡_}
 use mathlib.Core.Logic.{_≢_, _⊎_}

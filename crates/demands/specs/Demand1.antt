@@ -1,4 +1,4 @@
--- Demand 1: a call gives number n exactly when 01's condition n holds and no earlier one of the call's list does, and 0 exactly when none holds;
+-- Demand 1: a call gives number n exactly when the rules' condition n holds and no earlier one of the call's list does, and 0 exactly when none holds;
 -- a refusal changes nothing lent and gives 0 for all else. Assumes nothing: these are statements; `demand1` in proofs/Demand1 and `refusals` in proofs/Refusals prove them.
 use mathlib.Core.Path.{_≡_}
 use mathlib.Core.Logic.{_≢_, _↔_}
@@ -71,6 +71,8 @@ pub record Demand1 : Type 0 where
   -- a file that is read without refusal gives a job that 1 to 6 do not refuse: what the lists hold at their fronts, B and the card bytes
   pub read-accepted : (file caps places : List ℕ) → read file caps places .answer .number ≡ 0
       → let r = read file caps places in Accepted (take (r .racks) (r .caps)) (r .bytes) (held (take (r .slots) (r .places)) (r .cards))
+  -- and what 1 to 6 do not refuse passes the table check, so that the calls that are lent no cards take it too
+  pub accepted-check : (caps : List ℕ) (b : ℕ) (h : Held) → Accepted caps b h → checked (ofCaps caps) (h .places) .number ≡ 0
   -- the words of the conditions: N and the m_p are those of the capacities lent, S = total + N
   pub capacities : (caps : List ℕ) → (length (ofCaps caps) ≡ length caps) × (slots (ofCaps caps) ≡ total (ofCaps caps) + length caps)
   pub users-lent : (caps : List ℕ) (p : ℕ) → p < length caps → users (ofCaps caps) p ≡ getD caps p 0

@@ -18,10 +18,10 @@ use Rattle.factors.specs.Copies.{factor, copyList}
 use Rattle.shuffle.specs.Shuffle.{shuffled}
 use Rattle.shuffle.specs.Home.{Home}
 use Rattle.runs.specs.Run.{ran}
-use Rattle.demands.specs.Calls.{after, singles, AllAccepted}
+use Rattle.demands.specs.Calls.{heldAfter, singles, AllAccepted}
 use Rattle.demands.specs.Figure1Loop.{State, recv, alltoall, computeMoves, rounds, goesOn, extra}
 use Rattle.demands.specs.Figure1.{dueTo, figure1, bySlot}
-use Rattle.demands.specs.Section2.{CopyList}
+use Rattle.demands.specs.Section2.{Redistribution}
 
 -- the single move accepts m
 abbrev pub Accepts : List Rack → ℕ → Held → Pair → Type 0
@@ -48,12 +48,12 @@ pub record Phase (racks : List Rack) (b : ℕ) (h : Held) (pairs : List Pair) : 
   pub any-order : (ms : List Pair) → List·Permᴰ pairs ms → carried b ms h ≡ carried b pairs h
   -- and as single-move calls, in any order, each is accepted when its turn comes and counts one, and they leave the same
   pub any-calls : (ms : List Pair) → List·Permᴰ pairs ms → AllAccepted racks b h ms
-  pub calls-leave : (ms : List Pair) → List·Permᴰ pairs ms → after racks b (singles ms) h ≡ carried b pairs h
+  pub calls-leave : (ms : List Pair) → List·Permᴰ pairs ms → heldAfter racks b (singles ms) h ≡ carried b pairs h
 
 -- the shuffle of an accepted table and its cards, with nothing away
 pub record Shuffle (racks : List Rack) (b : ℕ) (h : Held) : Type 0 where
   pub done : shuffled racks b h .answer .number ≡ 0
-  pub list : CopyList (h .places)
+  pub list : Redistribution (h .places)
   -- every factor is inside one rack
   pub inside : (k x : ℕ) → k < slots racks → In x (factor (h .places) k) → rackOf racks x ≡ rackOf racks k
   pub home : Home racks b h (shuffled racks b h .held)
@@ -66,8 +66,8 @@ module _ (racks : List Rack) (b : ℕ) (h : Held) where
   plans = phases racks (h .places)
 
   -- the table and the cards when phase n begins, counted from 0; after the last phase, when the shuffle does
-  abbrev pub startOf : ℕ → Held
-  startOf n = carried b (join (take n plans)) h
+  abbrev pub phaseHeld : ℕ → Held
+  phaseHeld n = carried b (join (take n plans)) h
 
   -- figure 1's input: the free slots of each rack, and what each owes each
   abbrev pub input : State
@@ -86,19 +86,19 @@ module _ (racks : List Rack) (b : ℕ) (h : Held) where
 
   -- what it is still to receive when phase n begins, and to send
   abbrev pub toReceive : ℕ → ℕ → ℕ
-  toReceive n p = sum (length racks) (λ i. owes racks (startOf n .places) i p)
+  toReceive n p = sum (length racks) (λ i. owes racks (phaseHeld n .places) i p)
 
   abbrev pub toSend : ℕ → ℕ → ℕ
-  toSend n p = sum (length racks) (λ i. owes racks (startOf n .places) p i)
+  toSend n p = sum (length racks) (λ i. owes racks (phaseHeld n .places) p i)
 
   -- figure 1's loop is the run: round n is phase n
   pub record Figure1Run : Type 0 where
     -- before round n, free on p is the free slots of rack p when phase n begins
-    pub free-is : (n p : ℕ) → n ≤ length plans → p < length racks → loopAt n .free p ≡ room racks (startOf n .places) p
+    pub free-is : (n p : ℕ) → n ≤ length plans → p < length racks → loopAt n .free p ≡ room racks (phaseHeld n .places) p
     -- out[p] on i is what rack i owes rack p then
-    pub out-is : (n i p : ℕ) → n ≤ length plans → i < length racks → p < length racks → loopAt n .out i p ≡ owes racks (startOf n .places) i p
+    pub out-is : (n i p : ℕ) → n ≤ length plans → i < length racks → p < length racks → loopAt n .out i p ≡ owes racks (phaseHeld n .places) i p
     -- and so is in[i] on p
-    pub in-is : (n i p : ℕ) → n ≤ length plans → i < length racks → p < length racks → loopAt n .due p i ≡ owes racks (startOf n .places) i p
+    pub in-is : (n i p : ℕ) → n ≤ length plans → i < length racks → p < length racks → loopAt n .due p i ≡ owes racks (phaseHeld n .places) i p
     -- in round n, recv[i] on p is how many pairs of phase n go from rack i to rack p
     pub recv-is : (n i p : ℕ) → n < length plans → i < length racks → p < length racks
         → computeMoves (loopAt n) .recv p i ≡ matching (between racks i p) (getD plans n [])
@@ -106,37 +106,37 @@ module _ (racks : List Rack) (b : ℕ) (h : Held) where
     pub send-is : (n i p : ℕ) → n < length plans → i < length racks → p < length racks
         → computeMoves (loopAt n) .send i p ≡ matching (between racks i p) (getD plans n [])
     -- line 4: what all racks are still to send when phase n begins is the cards away then
-    pub all-owed : (n : ℕ) → sum (length racks) (toSend n) ≡ aways racks (startOf n .places)
+    pub all-owed : (n : ℕ) → sum (length racks) (toSend n) ≡ aways racks (phaseHeld n .places)
     -- and the test before round n holds exactly where there is a phase n: the loop ends when the run does
     pub test : (n : ℕ) → n ≤ length plans → goesOn (length racks) (loopAt n) ≡ ltb n (length plans)
     -- line 27: the free slots of p at the next phase and what p received in this one are those at this one and what it sent
-    pub line27 : (n p : ℕ) → n < length plans → p < length racks → room racks (startOf (suc n) .places) p + takes n p ≡ room racks (startOf n .places) p + gives n p
+    pub line27 : (n p : ℕ) → n < length plans → p < length racks → room racks (phaseHeld (suc n) .places) p + takes n p ≡ room racks (phaseHeld n .places) p + gives n p
     -- equation (2): the free slots, less what p is still to receive, plus what it is still to send, are at every phase what they were at the start
-    pub equation2 : (n p : ℕ) → p < length racks → room racks (startOf n .places) p + toSend n p ≡ extra (length racks) input p + toReceive n p
+    pub equation2 : (n p : ℕ) → p < length racks → room racks (phaseHeld n .places) p + toSend n p ≡ extra (length racks) input p + toReceive n p
     -- theorem 2's premise: that number is at least 1
     pub premise : (p : ℕ) → p < length racks → 1 ≤ extra (length racks) input p
     -- and it is how many slots of p are free after the last phase
-    pub free-end : (p : ℕ) → p < length racks → room racks (startOf (length plans) .places) p ≡ extra (length racks) input p
+    pub free-end : (p : ℕ) → p < length racks → room racks (phaseHeld (length plans) .places) p ≡ extra (length racks) input p
 
   pub record Demand2 : Type 0 where
     -- the plan that may be asked for now, and the shuffle where nothing is away
     pub plan-now : Phase racks b h (plan racks (h .places))
     pub shuffle-now : aways racks (h .places) ≡ 0 → Shuffle racks b h
     -- a whole run: every phase begins with a card away and carries the plan of the table that it finds, until none is away
-    pub phase : (n : ℕ) → n < length plans → Phase racks b (startOf n) (getD plans n [])
-    pub goes-on : (n : ℕ) → n < length plans → 0 < aways racks (startOf n .places)
-    pub over : aways racks (startOf (length plans) .places) ≡ 0
+    pub phase : (n : ℕ) → n < length plans → Phase racks b (phaseHeld n) (getD plans n [])
+    pub goes-on : (n : ℕ) → n < length plans → 0 < aways racks (phaseHeld n .places)
+    pub over : aways racks (phaseHeld (length plans) .places) ≡ 0
     -- the sequence is figure 1's
     pub figure1-run : Figure1Run
     -- then the shuffle
-    pub shuffle : Shuffle racks b (startOf (length plans))
-    pub then-shuffle : ran racks b h .held ≡ shuffled racks b (startOf (length plans)) .held
+    pub shuffle : Shuffle racks b (phaseHeld (length plans))
+    pub then-shuffle : ran racks b h .held ≡ shuffled racks b (phaseHeld (length plans)) .held
     -- so every card ends in its slot, and the counts are those of the plans, of the cards that were away, of the copies
     pub done : ran racks b h .answer .number ≡ 0
     pub home : Home racks b h (ran racks b h .held)
     pub phase-count : ran racks b h .answer .tally .phases ≡ length plans
     pub move-count : ran racks b h .answer .tally .moves ≡ aways racks (h .places)
-    pub copy-count : ran racks b h .answer .tally .copies ≡ length (copyList (startOf (length plans) .places))
+    pub copy-count : ran racks b h .answer .tally .copies ≡ length (copyList (phaseHeld (length plans) .places))
     -- budgeted moves make the first k of all these pairs; with a budget of at least the cards away, and then the shuffle, they are the whole run
     pub first-k : (k : ℕ) → budgeted racks b h k ≡ record { answer = answer 0 (movesOf (min k (aways racks (h .places)))); held = carried b (take k (join plans)) h }
     pub by-budget : (k : ℕ) → aways racks (h .places) ≤ k → ran racks b h .held ≡ shuffled racks b (budgeted racks b h k .held) .held

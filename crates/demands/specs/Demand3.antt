@@ -19,7 +19,7 @@ use Rattle.answers.specs.Answers.{answer, movesOf}
 use Rattle.moves.specs.Blocks.{block}
 use Rattle.moves.specs.Moves.{Held, carried, between, endChecks, moved}
 use Rattle.runs.specs.Awaits.{awaits}
-use Rattle.demands.specs.Calls.{Call, called, makes, after, made, counted}
+use Rattle.demands.specs.Calls.{Call, called, makes, heldAfter, made, counted}
 use Rattle.demands.specs.Calls.Call.{single, atMost}
 
 -- the calls, one after another, on the table and the cards h
@@ -42,11 +42,11 @@ module _ (racks : List Rack) (b : ℕ) (h : Held) (calls : List Call) where
 
   -- the table and the cards after the calls
   abbrev pub end : Held
-  end = after racks b calls h
+  end = heldAfter racks b calls h
 
   pub record Demand3 : Type 0 where
     -- between any two calls, and after the last, the table and the cards are as the moves made until then leave them
-    pub between-calls : (former later : List Call) → calls ≡ former ++ later → after racks b former h ≡ point (length (made racks b former h))
+    pub between-calls : (former later : List Call) → calls ≡ former ++ later → heldAfter racks b former h ≡ point (length (made racks b former h))
     pub end-is : end ≡ point moveCount
     -- every move made, inside budgeted calls too, is a single move that is accepted when its turn comes
     pub each-move : (n : ℕ) → n < moveCount

@@ -12,7 +12,7 @@ use Rattle.moves.specs.Turns.{Moving}
 use Rattle.shuffle.specs.Shuffle.{shuffled}
 use Rattle.shuffle.specs.Home.{Home}
 use Rattle.runs.specs.Run.{ran}
-use Rattle.demands.specs.Calls.{Call, after}
+use Rattle.demands.specs.Calls.{Call, heldAfter}
 
 -- a job: racks, B, a table and its cards
 module _ (racks : List Rack) (b : ℕ) (h : Held) where
@@ -32,7 +32,7 @@ module _ (racks : List Rack) (b : ℕ) (h : Held) where
     -- so all ways end alike: such moves and the shuffle leave what a whole run leaves
     pub any-moves : (ms : List Pair) → Gathers ms → shuffled racks b (carried b ms h) .held ≡ ran racks b h .held
     -- after any calls whatever, a whole run leaves what a whole run at the start would have left
-    pub later-run : (calls : List Call) → ran racks b (after racks b calls h) .held ≡ ran racks b h .held
+    pub later-run : (calls : List Call) → ran racks b (heldAfter racks b calls h) .held ≡ ran racks b h .held
     -- and so do budgeted moves with a budget of at least the cards away, then the shuffle
-    pub later-budget : (calls : List Call) (k : ℕ) → aways racks (after racks b calls h .places) ≤ k
-        → shuffled racks b (budgeted racks b (after racks b calls h) k .held) .held ≡ ran racks b h .held
+    pub later-budget : (calls : List Call) (k : ℕ) → aways racks (heldAfter racks b calls h .places) ≤ k
+        → shuffled racks b (budgeted racks b (heldAfter racks b calls h) k .held) .held ≡ ran racks b h .held

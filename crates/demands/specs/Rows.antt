@@ -1,4 +1,4 @@
--- Rows of 01's table: numbers with their conditions, in order, and what "given exactly when" says of them. Assumes nothing: these are definitions.
+-- Rows of the rules' table: numbers with their conditions, in order, and what "given exactly when" says of them. Assumes nothing: these are definitions.
 use mathlib.Core.Path.{_≡_}
 use mathlib.Core.Logic.{_≢_, _↔_, _⊎_}
 use mathlib.Core.List.{List, [], _∷_, _++_}

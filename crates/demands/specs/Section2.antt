@@ -51,8 +51,8 @@ pub data Factor (places : List ℕ) : List ℕ → Type 0 where
   isCycle : {x y : ℕ} {l : List ℕ} → Cycle places x y l → Factor places (x ∷ y ∷ l)
   isSettled : {x : ℕ} → Settled places x → Factor places (x ∷ [])
 
--- the copy list of an accepted table
-pub record CopyList (places : List ℕ) : Type 0 where
+-- the local redistribution of an accepted table: its copy list
+pub record Redistribution (places : List ℕ) : Type 0 where
   -- it has the copies of the factors
   pub joined : copyList places ≡ join (each (copies places) (factors places))
   pub each-is : All (Factor places) (factors places)

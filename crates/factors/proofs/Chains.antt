@@ -6,8 +6,8 @@ use mathlib.Core.List.{List, [], _∷_}
 use Prim.Native.Nat.{ℕ, zero, suc, _≤_, _<_}
 use native.Mathlib.Omega.{arith}
 use native.Mathlib.Decide.{ℕ-discrete, decLt}
-use lib.ListN.{length, getD, List·getD-eq-default}
-use borrow.Author.Tests.{eqb-true, eq-eqb, ne-eqb}
+use lib.ListN.{length, getD}
+use borrow.Author.Tests.{eqb-true, eq-eqb, ne-eqb, lt-ltb, le-ltb}
 use Rattle.counting.specs.Count.{seek}
 use Rattle.counting.specs.Lists.{last}
 use Rattle.counting.proofs.Tests.{by-test, no-way}
@@ -22,21 +22,15 @@ use Rattle.counting.specs.Every.{In, Distinct}
 use Rattle.factors.proofs.Members.{last-in, pigeon}
 use Rattle.factors.proofs.Walks.{Ends, Path, Undoes, after-path, walk-distinct, walk-low, walk-ends, turns-back}
 
--- an entry that is there, whatever is read where none is
-pub getD-there : (l : List ℕ) (i a b : ℕ) → i < length l → getD l i a ≡ getD l i b
-getD-there [] i a b h = absurd (omega arith)
-getD-there (x ∷ l) zero a b h = refl
-getD-there (x ∷ l) (suc i) a b h = getD-there l i a b (omega arith)
-
 -- a slot's entry says where its card goes
 pub next-is : (places : List ℕ) (x : ℕ) → x < length places → next places x ≡ getD places x 0
 unfolding next
-next-is places x h = getD-there places x FREE 0 h
+next-is places x h = rw (lt-ltb x (length places) h)
 
 -- only slots have cards
 pub next-has : (places : List ℕ) (x : ℕ) → next places x ≢ FREE → x < length places
 unfolding next
-next-has places x h = elim (decLt x (length places)) [ yes l ↦ l | no l ↦ absurd (h (List·getD-eq-default places FREE (omega arith))) ]
+next-has places x h = elim (decLt x (length places)) [ yes l ↦ l | no l ↦ absurd (h (rw (le-ltb x (length places) (omega arith)))) ]
 
 -- a legal table of at most 4,096 slots
 pub chained : {racks : List Rack} {places : List ℕ} → Legal racks places → slots racks ≤ 4096 → Chained places

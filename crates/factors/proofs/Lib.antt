@@ -9,5 +9,6 @@ pub mod Counted
 pub mod OneRack
 pub mod Sourced
 pub mod Walking
+pub mod Marks
 pub mod Behind
 pub mod Walked

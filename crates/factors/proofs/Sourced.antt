@@ -2,11 +2,11 @@
 use mathlib.Core.Path.{_≡_, refl, sym, ap, _∙_}
 use mathlib.Core.Logic.{_≢_}
 use mathlib.Core.List.{List}
-use Prim.Native.Nat.{ℕ, _+_, _<_}
+use Prim.Native.Nat.{ℕ, _+_, _≤_, _<_}
 use native.Mathlib.Omega.{arith}
 use native.Mathlib.Numerals.{add-one}
 use native.Mathlib.Decide.{ℕ-discrete}
-use lib.ListN.{length, getD, take, set, length-set, getD-replicate, length-replicate}
+use lib.ListN.{length, getD, take, set, replicate, length-set, getD-replicate, length-replicate}
 use lib.Seq.{getD-set-same, getD-set-other, getD-take, length-take-le}
 use borrow.Author.Tests.{eq-eqb, ne-eqb}
 use Rattle.counting.specs.Count.{seek}
@@ -15,14 +15,32 @@ use Rattle.racks.specs.Table.{dest, names}
 use Rattle.factors.specs.Copies.{next, source, onward, back}
 use Rattle.factors.specs.parts.Chains.{Chained}
 use Rattle.tables.specs.parts.Tables.{namedSlot}
-use Rattle.factors.specs.parts.Walks.{noSources, Sources, putSource}
+use Rattle.factors.specs.parts.Walks.{NoSources, Sources, putSource}
 use Rattle.factors.proofs.Walks.{after-same}
 use Rattle.factors.proofs.Chains.{next-is, next-has, next-source, source-low}
 
 -- the sources among the first g slots are in the table
 pub record SourcesTo (places : List ℕ) (g : ℕ) (noted : List ℕ) : Type 0 where
-  pub sources : (d : ℕ) → d < 4096 → getD noted d 0 ≡ seek FREE g (names places d)
-  pub long : length noted ≡ 4097
+  pub sources : (d : ℕ) → d < length places → getD noted d 0 ≡ seek FREE g (names places d)
+  pub long : 4097 ≤ length noted
+
+-- a list as it is made
+pub made-none : (n : ℕ) → n ≤ 4096 → (noted : List ℕ) → noted ≡ replicate 4097 65535 → NoSources n noted
+made-none n l noted e = rw e (record { none = λ d m. getD-replicate 4097 d 65535 0 (omega arith); long = omega (arith, length-replicate {A = ℕ} 4097 65535) })
+
+-- no entry is cleared yet
+pub cleared-none : (noted : List ℕ) → 4097 ≤ length noted → NoSources 0 noted
+cleared-none noted l = record { none = λ d m. absurd (omega arith); long = l }
+
+-- one entry more
+pub cleared-more : (d : ℕ) (noted : List ℕ) → d < length noted → NoSources d noted → NoSources (d + 1) (set noted d 65535)
+cleared-more d noted l s = record {
+  none = λ k m. elim (ℕ-discrete k d) [
+    | yes e ↦ rw e (getD-set-same noted d 65535 0 l)
+    | no q ↦ getD-set-other noted d k 65535 0 q ∙ s .none k (omega arith)
+  ];
+  long = omega (arith, length-set noted d 65535, s .long);
+}
 
 -- the card in slot g makes g the source of its destination
 pub put-source-is : (noted : List ℕ) (x g to : ℕ) → to ≡ namedSlot 4096 x → set noted to g ≡ putSource noted x g
@@ -47,19 +65,19 @@ seek-off places g d q = rw (add-one g, ne-eqb (dest places g) d q)
 
 module _ (places : List ℕ) where
   -- at first there are none
-  pub sources-none : (noted : List ℕ) → noted ≡ noSources → SourcesTo places 0 noted
+  pub sources-none : (noted : List ℕ) → NoSources (length places) noted → SourcesTo places 0 noted
   unfolding seek
-  sources-none noted e = rw e (record { sources = λ d l. getD-replicate 4097 d 65535 0 (omega arith); long = length-replicate {A = ℕ} 4097 65535 })
+  sources-none noted s = record { sources = s .none; long = s .long }
 
   -- one slot's entry more
-  pub sources-more : (g : ℕ) (noted after : List ℕ) → SourcesTo places g noted → after ≡ putSource noted (dest places g) g → SourcesTo places (g + 1) after
+  pub sources-more : length places ≤ 4096 → (g : ℕ) (noted after : List ℕ) → SourcesTo places g noted → after ≡ putSource noted (dest places g) g → SourcesTo places (g + 1) after
   unfolding putSource namedSlot
-  sources-more g noted after s e = elim (ℕ-discrete (dest places g) FREE) [
+  sources-more small g noted after s e = elim (ℕ-discrete (dest places g) FREE) [
     | yes f ↦
         let put : after ≡ set noted 4096 g = e ∙ rw (eq-eqb (dest places g) FREE f) in
         rw put (record {
           sources = λ d l. getD-set-other noted 4096 d g 0 (λ i. omega arith) ∙ s .sources d l ∙ sym (seek-off places g d (λ i. omega arith));
-          long = length-set noted 4096 g ∙ s .long;
+          long = omega (arith, length-set noted 4096 g, s .long);
         })
     | no q ↦
         let put : after ≡ set noted (dest places g) g = e ∙ rw (ne-eqb (dest places g) FREE q) in
@@ -68,7 +86,7 @@ module _ (places : List ℕ) where
             | yes i ↦ rw i (getD-set-same noted (dest places g) g 0 (omega (arith, s .long)) ∙ sym (seek-on places g (dest places g) refl))
             | no i ↦ getD-set-other noted (dest places g) d g 0 i ∙ s .sources d l ∙ sym (seek-off places g d (λ j. i (sym j)))
           ];
-          long = length-set noted (dest places g) g ∙ s .long;
+          long = omega (arith, length-set noted (dest places g) g, s .long);
         })
   ]
 
@@ -87,7 +105,7 @@ module _ {places noted : List ℕ} (ok : Chained places) (s : Sources places not
   length-inverse = length-take-le (length places) noted (omega (arith, ok .small, s .long))
 
   inverse-next : (x : ℕ) → x < length places → next inverse x ≡ source places x
-  inverse-next x l = next-is inverse x (omega (arith, length-inverse)) ∙ getD-take (length places) noted x 0 l ∙ s .sources x (omega (arith, ok .small))
+  inverse-next x l = next-is inverse x (omega (arith, length-inverse)) ∙ getD-take (length places) noted x 0 l ∙ s .sources x l
 
   inverse-has : (x : ℕ) → next inverse x ≢ FREE → next inverse x ≡ source places x
   inverse-has x q = inverse-next x (omega (arith, next-has inverse x q, length-inverse))

@@ -13,7 +13,7 @@ use Rattle.counting.specs.Lists.{among, last}
 use Rattle.counting.proofs.Members.{among-append}
 use Rattle.counting.proofs.Tests.{by-test, pick-same}
 use Rattle.racks.specs.Limits.{FREE}
-use Rattle.factors.specs.Copies.{next, after, onward}
+use Rattle.factors.specs.Copies.{next, following, onward}
 use Rattle.factors.specs.parts.Chains.{Chained}
 use Rattle.factors.specs.parts.Walks.{Sources, Marked, Passed, MarkedOn, MarkedBack, handEnd}
 use Rattle.factors.proofs.Walks.{Ends, after-stop, after-go}
@@ -28,7 +28,7 @@ last-snoc x y (z ∷ l) = last-snoc z y l
 -- n of the S steps from s are made, to x
 pub record Walking (f : ℕ → ℕ) (s S n x : ℕ) : Type 0 where
   pub past : List ℕ
-  pub all : after f s S s ≡ past ++ after f s (S - n) x
+  pub all : following f s S s ≡ past ++ following f s (S - n) x
   pub count : length past ≡ n
   pub here : x ≡ last s past
 
@@ -45,18 +45,18 @@ module _ (f : ℕ → ℕ) (s S : ℕ) where
       let go = after-go f s (S - (n + 1)) x (λ u. elim u [ inl v ↦ p (e ∙ v) | inr v ↦ q (e ∙ v) ]) in
       record {
         past = w .past ++ y ∷ [];
-        all = w .all ∙ rw (i, go, ← e) (sym (append-assoc (w .past) (y ∷ []) (after f s (S - (n + 1)) y)));
+        all = w .all ∙ rw (i, go, ← e) (sym (append-assoc (w .past) (y ∷ []) (following f s (S - (n + 1)) y)));
         count = omega (arith, length-append (w .past) (y ∷ []), w .count);
         here = sym (last-snoc s y (w .past));
       }
 
   -- the walk ends here
-  pub walk-stop : (n x : ℕ) (w : Walking f s S n x) → Ends s (f x) → after f s S s ≡ w .past
+  pub walk-stop : (n x : ℕ) (w : Walking f s S n x) → Ends s (f x) → following f s S s ≡ w .past
   walk-stop n x w e = w .all ∙ rw (after-stop f s (S - n) x e) (append-nil (w .past))
 
   -- all steps are made
-  pub walk-out : (n x : ℕ) (w : Walking f s S n x) → S ≤ n → after f s S s ≡ w .past
-  unfolding after
+  pub walk-out : (n x : ℕ) (w : Walking f s S n x) → S ≤ n → following f s S s ≡ w .past
+  unfolding following
   walk-out n x w l = let z : S - n ≡ 0 = omega arith in w .all ∙ rw z (append-nil (w .past))
 
 -- marks

@@ -11,7 +11,7 @@ use borrow.Author.Tests.{eq-eqb, ne-eqb}
 use Rattle.counting.specs.Lists.{last}
 use Rattle.counting.proofs.Tests.{or-l, or-r, or-none}
 use Rattle.racks.specs.Limits.{FREE}
-use Rattle.factors.specs.Copies.{after}
+use Rattle.factors.specs.Copies.{following}
 use Rattle.counting.specs.Every.{In, Distinct}
 use Rattle.factors.proofs.Members.{pigeon, last-in}
 
@@ -33,22 +33,22 @@ Path f s x (y ∷ l) = (f x ≡ y) × (y ≢ FREE) × (y ≢ s) × Path f s y l
 
 module _ (f : ℕ → ℕ) (s : ℕ) where
   -- where it ends, no slot follows
-  pub after-stop : (n x : ℕ) → Ends s (f x) → after f s n x ≡ []
-  unfolding after
+  pub after-stop : (n x : ℕ) → Ends s (f x) → following f s n x ≡ []
+  unfolding following
   after-stop zero x h = refl
   after-stop (suc n) x h = elim h [ inl e ↦ rw (or-l (eqb (f x) s) (eq-eqb (f x) FREE e)) | inr e ↦ rw (or-r (eqb (f x) FREE) (eq-eqb (f x) s e)) ]
 
   -- where it does not, f x follows
-  pub after-go : (n x : ℕ) → ¬ Ends s (f x) → after f s (suc n) x ≡ f x ∷ after f s n (f x)
-  unfolding after
+  pub after-go : (n x : ℕ) → ¬ Ends s (f x) → following f s (suc n) x ≡ f x ∷ following f s n (f x)
+  unfolding following
   after-go n x h = rw (or-none (ne-eqb (f x) FREE (λ e. h (inl e))) (ne-eqb (f x) s (λ e. h (inr e))))
 
-  after-none : (x : ℕ) → after f s 0 x ≡ []
-  unfolding after
+  after-none : (x : ℕ) → following f s 0 x ≡ []
+  unfolding following
   after-none x = refl
 
   -- each slot that follows is f of the one before
-  pub after-path : (n x : ℕ) → Path f s x (after f s n x)
+  pub after-path : (n x : ℕ) → Path f s x (following f s n x)
   after-path zero x = rw (after-none x) tt
   after-path (suc n) x = elim (ends? s (f x)) [
     | yes e ↦ rw (after-stop (suc n) x e) tt
@@ -56,7 +56,7 @@ module _ (f : ℕ → ℕ) (s : ℕ) where
   ]
 
   -- it ends, or all steps are made
-  after-ends : (n x : ℕ) → Ends s (f (last x (after f s n x))) ⊎ (length (after f s n x) ≡ n)
+  after-ends : (n x : ℕ) → Ends s (f (last x (following f s n x))) ⊎ (length (following f s n x) ≡ n)
   unfolding last
   after-ends zero x = inr (rw (after-none x))
   after-ends (suc n) x = elim (ends? s (f x)) [
@@ -103,50 +103,50 @@ module _ (f g : ℕ → ℕ) (undo : Undoes g f) (s : ℕ) where
 
 module _ (f g : ℕ → ℕ) (undo : Undoes g f) (x : ℕ) where
   -- the slots of a walk are distinct
-  pub walk-distinct : (n : ℕ) → Distinct (x ∷ after f x n x)
-  walk-distinct n = distinct-by f g undo x x (after f x n x) (after-path f x n x) (not-start f x x (after f x n x) (after-path f x n x))
+  pub walk-distinct : (n : ℕ) → Distinct (x ∷ following f x n x)
+  walk-distinct n = distinct-by f g undo x x (following f x n x) (after-path f x n x) (not-start f x x (following f x n x) (after-path f x n x))
 
   module _ (S : ℕ) (low : (a : ℕ) → f a ≢ FREE → f a < S) (small : x < S) where
     -- the slots of a walk are below S
-    pub walk-low : (v : ℕ) → In v (x ∷ after f x S x) → v < S
+    pub walk-low : (v : ℕ) → In v (x ∷ following f x S x) → v < S
     walk-low v (inl e) = rw e small
     walk-low v (inr m) =
-        let t = comes-from f x x v (after f x S x) (after-path f x S x) m in
+        let t = comes-from f x x v (following f x S x) (after-path f x S x) m in
         rw (← t .2) (low (t .0) (rw (t .2) (t .3)))
 
     -- S steps are enough
-    pub walk-ends : Ends x (f (last x (after f x S x)))
+    pub walk-ends : Ends x (f (last x (following f x S x)))
     walk-ends = go (after-ends f x S x)
       where
-        go : Ends x (f (last x (after f x S x))) ⊎ (length (after f x S x) ≡ S) → Ends x (f (last x (after f x S x)))
+        go : Ends x (f (last x (following f x S x))) ⊎ (length (following f x S x) ≡ S) → Ends x (f (last x (following f x S x)))
         go (inl e) = e
-        go (inr e) = let z : _≡_ {A = ℕ} 0 1 = omega (arith, e, pigeon S (x ∷ after f x S x) (walk-distinct S) walk-low) in absurd (omega arith)
+        go (inr e) = let z : _≡_ {A = ℕ} 0 1 = omega (arith, e, pigeon S (x ∷ following f x S x) (walk-distinct S) walk-low) in absurd (omega arith)
 
 -- where the walk on comes to x again, so does the walk back
 module _ (f g : ℕ → ℕ) (undo : Undoes g f) (redo : Undoes f g) (x S : ℕ) (few : S ≤ FREE) (low : (a : ℕ) → f a ≢ FREE → f a < S) (low′ : (a : ℕ) → g a ≢ FREE → g a < S) (small : x < S) where
-  turned : f (last x (after f x S x)) ≡ x → (v : ℕ) → In v (x ∷ after f x S x) → In (g v) (x ∷ after f x S x)
+  turned : f (last x (following f x S x)) ≡ x → (v : ℕ) → In v (x ∷ following f x S x) → In (g v) (x ∷ following f x S x)
   turned e v (inl i) =
-      let l : ℕ = last x (after f x S x) in
+      let l : ℕ = last x (following f x S x) in
       let q : f l ≢ FREE = rw e (omega arith) in
-      rw (i ∙ sym e, undo l q) (last-in x (after f x S x))
+      rw (i ∙ sym e, undo l q) (last-in x (following f x S x))
   turned e v (inr m) =
-      let t = comes-from f x x v (after f x S x) (after-path f x S x) m in
+      let t = comes-from f x x v (following f x S x) (after-path f x S x) m in
       rw (← t .2, undo (t .0) (rw (t .2) (t .3))) (t .1)
 
   -- so it comes to x again
-  pub turns-back : f (last x (after f x S x)) ≡ x → g (last x (after g x S x)) ≡ x
+  pub turns-back : f (last x (following f x S x)) ≡ x → g (last x (following g x S x)) ≡ x
   turns-back e = go (walk-ends g f redo x S low′ small)
     where
-      end : In (g (last x (after g x S x))) (x ∷ after f x S x)
-      end = turned e (last x (after g x S x)) (stays-in g x (λ v. In v (x ∷ after f x S x)) (λ v m _. turned e v m) x (after g x S x) (after-path g x S x) (inl refl))
+      end : In (g (last x (following g x S x))) (x ∷ following f x S x)
+      end = turned e (last x (following g x S x)) (stays-in g x (λ v. In v (x ∷ following f x S x)) (λ v m _. turned e v m) x (following g x S x) (after-path g x S x) (inl refl))
 
-      go : Ends x (g (last x (after g x S x))) → g (last x (after g x S x)) ≡ x
-      go (inl u) = absurd (omega (arith, walk-low f g undo x S low small (g (last x (after g x S x))) end))
+      go : Ends x (g (last x (following g x S x))) → g (last x (following g x S x)) ≡ x
+      go (inl u) = absurd (omega (arith, walk-low f g undo x S low small (g (last x (following g x S x))) end))
       go (inr u) = u
 
 -- where f and g agree on the slots, so do the walks along them
-pub after-same : (f g : ℕ → ℕ) (s S : ℕ) → ((x : ℕ) → x < S → f x ≡ g x) → ((x : ℕ) → g x ≢ FREE → g x < S) → (n x : ℕ) → x < S → after f s n x ≡ after g s n x
-unfolding after
+pub after-same : (f g : ℕ → ℕ) (s S : ℕ) → ((x : ℕ) → x < S → f x ≡ g x) → ((x : ℕ) → g x ≢ FREE → g x < S) → (n x : ℕ) → x < S → following f s n x ≡ following g s n x
+unfolding following
 after-same f g s S same below zero x l = refl
 after-same f g s S same below (suc n) x l = elim (ends? s (g x)) [
   | yes e ↦ after-stop f s (suc n) x (rw (same x l) e) ∙ sym (after-stop g s (suc n) x e)

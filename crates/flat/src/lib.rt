@@ -1,7 +1,7 @@
 // What C is given: the answers as structs of plain numbers.
 pub mod parts;
 
-// What every call gives: a number of 01's list and the counts.
+// What every call gives: a number of the rules' list and the counts.
 #[repr(C)]
 pub struct Answer {
     pub number: usize,

@@ -20,7 +20,7 @@ use Rattle.racks.specs.Numbers.{badSize, tooLarge}
 use Rattle.racks.proofs.Caps.{length-caps, users-caps, size-rack, size-all, size-good, total-is}
 use Rattle.jobfile.specs.Numeral.{refused, numerals}
 use Rattle.jobfile.specs.File.{wrongM}
-use Rattle.jobfile.specs.parts.Parsing.{between, outside, room, takenOf, CapsRead}
+use Rattle.jobfile.specs.parts.Parsing.{ranged, outside, roomFor, takenOf, CapsRead}
 use Rattle.jobfile.proofs.Numerals.{got, reading, passed-good, refused-by, numerals-go, numerals-stop, inside, outside-none, outside-high}
 
 -- capacities that are in order so far
@@ -80,15 +80,15 @@ module _ (before : List ℕ) (m : ℕ) where
     wrong-0 h = first-later _ 3 _ h ∙ first-none
 
 -- the room that the running total leaves
-pub room-is : (t m : ℕ) → m ≤ room t → (m ≤ 1023) × (m ≤ 4032 - t)
-unfolding room
+pub room-is : (t m : ℕ) → m ≤ roomFor t → (m ≤ 1023) × (m ≤ 4032 - t)
+unfolding roomFor
 room-is t m l = elim (decLe 1023 (4032 - t)) [
   | yes h ↦ let k = rw (le-ltb (4032 - t) 1023 h) at l in (k, omega arith)
   | no h ↦ let k = rw (lt-ltb (4032 - t) 1023 (omega arith)) at l in (omega arith, k)
 ]
 
-room-not : (t m : ℕ) → room t < m → m ≤ 1023 → 4032 - t < m
-unfolding room
+room-not : (t m : ℕ) → roomFor t < m → m ≤ 1023 → 4032 - t < m
+unfolding roomFor
 room-not t m l h = elim (decLe 1023 (4032 - t)) [
   | yes k ↦ absurd (omega (arith, rw (le-ltb (4032 - t) 1023 k) at l))
   | no k ↦ rw (lt-ltb (4032 - t) 1023 (omega arith)) at l
@@ -129,17 +129,17 @@ module _ (file : List ℕ) (at n : ℕ) (caps : List ℕ) where
       left-suc : numerals wrongM (suc (n - (p + 1))) file place (take p caps) ≡ numerals wrongM n file at []
       left-suc = ap (λ (k : ℕ). numerals wrongM k file place (take p caps)) (sym one-left) ∙ c .left
 
-      module _ (m next : ℕ) (e : got m next ≡ between 0 (room sum) 3 file place) where
+      module _ (m next : ℕ) (e : got m next ≡ ranged 0 (roomFor sum) 3 file place) where
         -- it is at most 1,023, and the running total at most 4,032
         pub cap-small : (m ≤ 1023) × (sum + m ≤ 4032)
-        unfolding between
+        unfolding ranged
         cap-small =
-            let r = room-is sum m (inside 0 (room sum) 3 m (omega arith) (passed-good file place (outside 0 (room sum) 3) m next e) .1) in
+            let r = room-is sum m (inside 0 (roomFor sum) 3 m (omega arith) (passed-good file place (outside 0 (roomFor sum) 3) m next e) .1) in
             (r .0, omega (arith, r .1, c .sum-is, size-total (take p caps) (c .good)))
 
         -- one more is read
         pub capping-more : n ≤ 64 → Capping file at n (p + 1) next (sum + m) (set caps p m)
-        unfolding between
+        unfolding ranged
         capping-more h =
             let t : take (p + 1) (set caps p m) ≡ take p caps ++ m ∷ [] = ap (λ (k : ℕ). take k (set caps p m)) (add-one p) ∙ take-suc-set caps p m (omega (arith, c .long)) in
             let g = size-after (take p caps) m (c .good) (cap-small .0) (omega (arith, c .sum-is, cap-small .1)) in
@@ -148,27 +148,27 @@ module _ (file : List ℕ) (at n : ℕ) (caps : List ℕ) where
               long = length-set caps p m ∙ c .long;
               sum-is = rw t (omega (arith, c .sum-is, total-after (take p caps) m));
               good = rw t g;
-              left = rw t (sym (numerals-go file place wrongM (n - (p + 1)) (take p caps) (outside 0 (room sum) 3) m next e (wrong-0 (take p caps) m (c .good) g)) ∙ left-suc);
+              left = rw t (sym (numerals-go file place wrongM (n - (p + 1)) (take p caps) (outside 0 (roomFor sum) 3) m next e (wrong-0 (take p caps) m (c .good) g)) ∙ left-suc);
             }
 
-      as-bad : (m : ℕ) → (outside 0 (room sum) 3 m ≡ 0 → ⊥) → wrongM (take p caps) m ≡ outside 0 (room sum) 3 m
-      as-bad m f = elim (decLe m (room sum)) [
-        | yes h ↦ absurd (f (outside-none 0 (room sum) 3 m (omega arith) h))
+      as-bad : (m : ℕ) → (outside 0 (roomFor sum) 3 m ≡ 0 → ⊥) → wrongM (take p caps) m ≡ outside 0 (roomFor sum) 3 m
+      as-bad m f = elim (decLe m (roomFor sum)) [
+        | yes h ↦ absurd (f (outside-none 0 (roomFor sum) 3 m (omega arith) h))
         | no h ↦
             let b : badSize (ofCaps (take p caps ++ m ∷ [])) ≡ true = elim (decLe m 1023) [
               | yes k ↦ size-over (take p caps) m (c .good) (omega (arith, room-not sum m (omega arith) k, c .sum-is))
               | no k ↦ size-large (take p caps) m (c .good) (omega arith)
             ] in
-            wrong-3 (take p caps) m (c .good) b ∙ sym (outside-high 0 (room sum) 3 m (omega arith))
+            wrong-3 (take p caps) m (c .good) b ∙ sym (outside-high 0 (roomFor sum) 3 m (omega arith))
       ]
 
       -- one is refused
-      pub capping-stop : (k : ℕ) → refused k ≡ between 0 (room sum) 3 file place → CapsRead file at n (record { number = k; place = 0 }) caps
-      unfolding between takenOf
+      pub capping-stop : (k : ℕ) → refused k ≡ ranged 0 (roomFor sum) 3 file place → CapsRead file at n (record { number = k; place = 0 }) caps
+      unfolding ranged takenOf
       capping-stop k e =
-          let f = refused-by file place (outside 0 (room sum) 3) k e .1 in
+          let f = refused-by file place (outside 0 (roomFor sum) 3) k e .1 in
           record {
-            is = rw (ne-eqb k 0 f) (sym (numerals-stop file place wrongM (n - (p + 1)) (take p caps) (outside 0 (room sum) 3) as-bad k e) ∙ left-suc);
+            is = rw (ne-eqb k 0 f) (sym (numerals-stop file place wrongM (n - (p + 1)) (take p caps) (outside 0 (roomFor sum) 3) as-bad k e) ∙ left-suc);
             good = λ z. absurd (f z);
             long = c .long;
           }

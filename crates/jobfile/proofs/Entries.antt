@@ -22,12 +22,12 @@ use Rattle.racks.specs.Racks.{Rack, slots, isUser}
 use Rattle.racks.specs.Table.{dest, free}
 use Rattle.racks.specs.Numbers.{badEntry, repeats, badTwice}
 use Rattle.racks.proofs.Geometry.{user-none}
-use Rattle.tables.specs.parts.Tables.{Marked}
+use Rattle.tables.specs.parts.Tables.{UsersMarked}
 use Rattle.tables.specs.parts.Marks.{Entered, worse}
 use Rattle.tables.proofs.Marks.{Passed, passed-none, passed-cong, passed-more, bad-5, clean-5}
 use Rattle.jobfile.specs.Numeral.{refused, Numerals, numerals}
 use Rattle.jobfile.specs.File.{wrongEntry, entryOf}
-use Rattle.jobfile.specs.parts.Parsing.{between, outside, entries, entriesChecks, EntriesRead}
+use Rattle.jobfile.specs.parts.Parsing.{ranged, outside, entries, entriesChecks, EntriesRead}
 use Rattle.jobfile.proofs.Numerals.{got, stopped, reading, passed-good, refused-by, numerals-go, numerals-stop, numerals-bad, inside, outside-none, outside-high}
 
 -- an entry of the file is wrong where the table's entry is bad
@@ -87,7 +87,7 @@ pub record Entering (racks : List Rack) (file : List ℕ) (at g place : ℕ) (pl
 
 module _ (racks : List Rack) (file : List ℕ) (at : ℕ) (places marks : List ℕ) where
   -- none is read yet
-  pub entering-none : Marked racks marks → length places ≡ 4096 → Entering racks file at 0 at places marks 0
+  pub entering-none : UsersMarked racks marks → length places ≡ 4096 → Entering racks file at 0 at places marks 0
   unfolding each entries
   entering-none m l =
       record {
@@ -125,16 +125,16 @@ module _ (racks : List Rack) (file : List ℕ) (at : ℕ) (places marks : List �
       ]
 
       -- by its form, or one that no slot has
-      pub entering-stop : (k : ℕ) → refused k ≡ between 0 4096 5 file place → EntriesRead racks file at (record { number = k; place = 0 }) places
-      unfolding between
+      pub entering-stop : (k : ℕ) → refused k ≡ ranged 0 4096 5 file place → EntriesRead racks file at (record { number = k; place = 0 }) places
+      unfolding ranged
       entering-stop k e =
           stopped-read k (refused-by file place (outside 0 4096 5) k e .1) (c .long)
           (sym (numerals-stop file place (wrongEntry racks) (slots racks - (g + 1)) (c .raw) (outside 0 4096 5) as-bad k e) ∙ left-suc)
 
       -- one is between the limits
-      module _ (x next : ℕ) (e : got x next ≡ between 0 4096 5 file place) where
+      module _ (x next : ℕ) (e : got x next ≡ ranged 0 4096 5 file place) where
         pub entry-small : x ≤ 4096
-        unfolding between
+        unfolding ranged
         entry-small = inside 0 4096 5 x (omega arith) (passed-good file place (outside 0 4096 5) x next e) .1
 
         -- and has its number by the marks
@@ -154,7 +154,7 @@ module _ (racks : List Rack) (file : List ℕ) (at : ℕ) (places marks : List �
 
           -- 5: it names no user slot
           pub entering-5 : n ≡ 5 → EntriesRead racks file at (record { number = 5; place = 0 }) places
-          unfolding between
+          unfolding ranged
           entering-5 q =
               stopped-read 5 (λ z. omega arith) (c .long)
               (sym (numerals-bad file place (wrongEntry racks) (slots racks - (g + 1)) (c .raw) (outside 0 4096 5) x next 5 e
@@ -162,7 +162,7 @@ module _ (racks : List Rack) (file : List ℕ) (at : ℕ) (places marks : List �
 
           -- else one more is read
           pub entering-more : (n ≡ 5 → ⊥) → Entering racks file at (g + 1) next (set places g y) after (worse worst n)
-          unfolding between
+          unfolding ranged
           entering-more f =
               record {
                 few = omega arith;

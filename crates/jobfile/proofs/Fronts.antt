@@ -13,23 +13,22 @@ use Rattle.counting.specs.Tests.{_or_}
 use Rattle.counting.specs.Checks.{first}
 use Rattle.counting.proofs.Checks.{first-here, first-later}
 use Rattle.racks.specs.Racks.{ofCaps}
-use Rattle.racks.specs.Numbers.{badCount, badBytes}
-use Rattle.racks.specs.Job.{rackChecks}
+use Rattle.racks.specs.Numbers.{badCount, badBytes, rackChecks}
 use Rattle.racks.proofs.Caps.{length-caps, count-good, checks-0}
 use Rattle.jobfile.specs.Numeral.{refused, Numerals, numerals}
 use Rattle.jobfile.specs.File.{wrongN, wrongB, wrongM, readN, readB, readM, fileRacks, fileBytes}
-use Rattle.jobfile.specs.parts.Parsing.{checkedBy, between, outside, takenOf, CapsRead, noHead, headChecks, HeadRead}
+use Rattle.jobfile.specs.parts.Parsing.{checkedNumeral, ranged, outside, takenOf, CapsRead, noHead, headChecks, HeadRead}
 use Rattle.jobfile.specs.declared.parts.Taken.{Taken}
 use Rattle.jobfile.specs.declared.parts.Head.{Head}
 use Rattle.jobfile.proofs.Numerals.{got, stopped, reading, alone, passed-good, refused-by, numerals-go, numerals-stop, inside}
 
 -- one numeral
 module _ (file : List ℕ) (at : ℕ) (bad : List ℕ → ℕ → ℕ) (f : ℕ → ℕ) (same : (v : ℕ) → bad [] v ≡ f v) where
-  one-value : (v p : ℕ) → got v p ≡ checkedBy f file at → numerals bad 1 file at [] ≡ reading (v ∷ []) p
+  one-value : (v p : ℕ) → got v p ≡ checkedNumeral f file at → numerals bad 1 file at [] ≡ reading (v ∷ []) p
   unfolding numerals
   one-value v p e = numerals-go file at bad 0 [] f v p e (same v ∙ passed-good file at f v p e)
 
-  one-refused : (n : ℕ) → refused n ≡ checkedBy f file at → numerals bad 1 file at [] ≡ stopped n
+  one-refused : (n : ℕ) → refused n ≡ checkedNumeral f file at → numerals bad 1 file at [] ≡ stopped n
   one-refused n e = numerals-stop file at bad 0 [] f (λ v _. same v) n e
 
 -- 0 is what is below 1
@@ -56,8 +55,8 @@ none a e = ap not (eq-eqb a 0 e)
 
 module _ (file : List ℕ) (caps : List ℕ) (long : length caps ≡ 64) where
   -- N is refused
-  pub head-N : (n : ℕ) → refused n ≡ between 1 64 1 file 0 → HeadRead file (noHead n) caps
-  unfolding between readN headChecks
+  pub head-N : (n : ℕ) → refused n ≡ ranged 1 64 1 file 0 → HeadRead file (noHead n) caps
+  unfolding ranged readN headChecks
   head-N n e =
       let f = refused-by file 0 (outside 1 64 1) n e .1 in
       let r = ap (λ (x : Numerals). x .number) (one-refused file 0 wrongN (outside 1 64 1) same-N n e) in
@@ -68,22 +67,22 @@ module _ (file : List ℕ) (caps : List ℕ) (long : length caps ≡ 64) where
       }
 
   -- N is read
-  module _ (n p : ℕ) (e : got n p ≡ between 1 64 1 file 0) where
+  module _ (n p : ℕ) (e : got n p ≡ ranged 1 64 1 file 0) where
     is-N : readN file ≡ reading (n ∷ []) p
-    unfolding between readN
+    unfolding ranged readN
     is-N = one-value file 0 wrongN (outside 1 64 1) same-N n p e
 
     -- it is 1 to 64
     pub N-small : (1 ≤ n) × (n ≤ 64)
-    unfolding between
+    unfolding ranged
     N-small = inside 1 64 1 n (omega arith) (passed-good file 0 (outside 1 64 1) n p e)
 
     past-N : not (eqb (readN file .number) 0) ≡ false
     past-N = none _ (ap (λ (x : Numerals). x .number) is-N)
 
     -- B is refused
-    pub head-B : (k : ℕ) → refused k ≡ between 1 256 2 file p → HeadRead file (noHead k) caps
-    unfolding between readB headChecks
+    pub head-B : (k : ℕ) → refused k ≡ ranged 1 256 2 file p → HeadRead file (noHead k) caps
+    unfolding ranged readB headChecks
     head-B k e′ =
         let f = refused-by file p (outside 1 256 2) k e′ .1 in
         let r : readB file .number ≡ k =
@@ -95,9 +94,9 @@ module _ (file : List ℕ) (caps : List ℕ) (long : length caps ≡ 64) where
         }
 
     -- B is read
-    module _ (b q : ℕ) (e′ : got b q ≡ between 1 256 2 file p) (t : Taken) (after : List ℕ) (c : CapsRead file q n t after) where
+    module _ (b q : ℕ) (e′ : got b q ≡ ranged 1 256 2 file p) (t : Taken) (after : List ℕ) (c : CapsRead file q n t after) where
       is-B : readB file ≡ reading (b ∷ []) q
-      unfolding between readB
+      unfolding ranged readB
       is-B = ap (λ (x : Numerals). numerals wrongB 1 file (x .place) []) is-N ∙ one-value file p wrongB (outside 1 256 2) same-B b q e′
 
       is-M : readM file ≡ takenOf t (take n after)
@@ -131,7 +130,7 @@ module _ (file : List ℕ) (caps : List ℕ) (long : length caps ≡ 64) where
 
       -- the m_p are refused or done
       pub head-M : HeadRead file made after
-      unfolding headChecks takenOf fileBytes between
+      unfolding headChecks takenOf fileBytes ranged
       head-M =
           record {
             number-is =

@@ -11,8 +11,7 @@ use lib.ListN.{length, getD}
 use borrow.Author.Tests.{eq-eqb, ne-eqb, le-leb, lt-leb}
 use Rattle.counting.specs.Tests.{_and_, pick}
 use Rattle.counting.proofs.Tests.{and-off-l, and-off-r, both}
-use Rattle.jobfile.specs.Numeral.{Got, refused, groups}
-use Rattle.jobfile.specs.parts.Parsing.{lastGroup}
+use Rattle.jobfile.specs.Numeral.{Got, refused, groups, lastGroup}
 
 -- the last group, by the tests that the code makes
 module _ (value weight x next : ℕ) where
@@ -87,7 +86,7 @@ product-small y weight l h = omega (arith, mul-le-mul-right weight l)
 
 -- the place behind a numeral that is read is not 0
 pub place-some : (more : ℕ) (file : List ℕ) (at value weight : ℕ) → groups more file at value weight .number ≡ 0 → 0 < groups more file at value weight .place
-unfolding groups
+unfolding groups lastGroup
 place-some zero file at value weight e = absurd (omega arith)
 place-some (suc more) file at value weight e = go (leb (length file) at) (leb 128 (getD file at 0)) (eqb (getD file at 0) 0 and not (eqb weight 1)) _ _ (place-some more file (suc at) _ _) (omega arith) e
   where

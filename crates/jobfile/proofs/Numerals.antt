@@ -12,7 +12,7 @@ use Rattle.counting.proofs.Tests.{by-test, or-l, or-r, or-none}
 use Rattle.counting.proofs.Checks.{first-here, first-later, first-none}
 use Rattle.jobfile.specs.Numeral.{Got, refused, numeral, Numerals, numerals}
 use Rattle.jobfile.specs.Answers.{gotOf}
-use Rattle.jobfile.specs.parts.Parsing.{checkedBy, outside}
+use Rattle.jobfile.specs.parts.Parsing.{checkedNumeral, outside}
 use Rattle.jobfile.specs.declared.Numeral.{Numeral}
 use Rattle.jobfile.specs.declared.Numeral.the-variants.{Value, Refused}
 use Rattle.jobfile.proofs.Groups.{place-some}
@@ -71,18 +71,18 @@ module _ (file : List ℕ) (at : ℕ) where
 
   module _ (bad : ℕ → ℕ) where
     -- what a numeral gives that is refused by its form, that passes, and that is bad
-    pub checked-form : (n : ℕ) → refused n ≡ numeral file at → refused n ≡ checkedBy bad file at
-    unfolding checkedBy
+    pub checked-form : (n : ℕ) → refused n ≡ numeral file at → refused n ≡ checkedNumeral bad file at
+    unfolding checkedNumeral
     checked-form n e = rw (← e, either-l n (bad 0) (refused-some n e), ne-eqb n 0 (refused-some n e))
 
     -- it passes
-    pub checked-value : (v p : ℕ) → got v p ≡ numeral file at → bad v ≡ 0 → got v p ≡ checkedBy bad file at
-    unfolding checkedBy
+    pub checked-value : (v p : ℕ) → got v p ≡ numeral file at → bad v ≡ 0 → got v p ≡ checkedNumeral bad file at
+    unfolding checkedNumeral
     checked-value v p e z = rw (← e, either-r (bad v), z)
 
     -- it is bad
-    pub checked-bad : (v p n : ℕ) → got v p ≡ numeral file at → bad v ≡ n → (n ≡ 0 → ⊥) → refused n ≡ checkedBy bad file at
-    unfolding checkedBy
+    pub checked-bad : (v p n : ℕ) → got v p ≡ numeral file at → bad v ≡ n → (n ≡ 0 → ⊥) → refused n ≡ checkedNumeral bad file at
+    unfolding checkedNumeral
     checked-bad v p n e b f = rw (← e, either-r (bad v), b, ne-eqb n 0 f)
 
   module _ (f : ℕ → ℕ) where
@@ -90,28 +90,28 @@ module _ (file : List ℕ) (at : ℕ) where
     abbrev with-f : ℕ
     with-f = either (numeral file at .number) (f (numeral file at .value))
 
-    checked-done : done with-f ≡ true → checkedBy f file at ≡ numeral file at
-    unfolding checkedBy
+    checked-done : done with-f ≡ true → checkedNumeral f file at ≡ numeral file at
+    unfolding checkedNumeral
     checked-done t = rw t
 
-    checked-not : done with-f ≡ false → checkedBy f file at ≡ refused with-f
-    unfolding checkedBy
+    checked-not : done with-f ≡ false → checkedNumeral f file at ≡ refused with-f
+    unfolding checkedNumeral
     checked-not t = rw t
 
     -- back again: a numeral that passes was read, and is not bad
-    pub passed-numeral : (v p : ℕ) → got v p ≡ checkedBy f file at → got v p ≡ numeral file at
+    pub passed-numeral : (v p : ℕ) → got v p ≡ checkedNumeral f file at → got v p ≡ numeral file at
     passed-numeral v p e = by-test (done with-f)
         (λ t. e ∙ checked-done t)
         (λ t. absurd (eqb-false with-f 0 t (sym (ap (λ (g : Got). g .number) (e ∙ checked-not t)))))
 
     -- it is not bad
-    pub passed-good : (v p : ℕ) → got v p ≡ checkedBy f file at → f v ≡ 0
+    pub passed-good : (v p : ℕ) → got v p ≡ checkedNumeral f file at → f v ≡ 0
     passed-good v p e = by-test (done with-f)
         (λ t. sym (either-r (f v)) ∙ ap (λ (g : Got). either (g .number) (f (g .value))) (e ∙ checked-done t) ∙ eqb-true with-f 0 t)
         (λ t. absurd (eqb-false with-f 0 t (sym (ap (λ (g : Got). g .number) (e ∙ checked-not t)))))
 
     -- one that is refused is refused by its form or is bad
-    pub refused-by : (n : ℕ) → refused n ≡ checkedBy f file at → (n ≡ with-f) × (n ≡ 0 → ⊥)
+    pub refused-by : (n : ℕ) → refused n ≡ checkedNumeral f file at → (n ≡ with-f) × (n ≡ 0 → ⊥)
     refused-by n e = by-test (done with-f)
         (λ t. let q = e ∙ checked-done t in (sym (either-l n (f 0) (refused-some n q)) ∙ ap (λ (g : Got). either (g .number) (f (g .value))) q, refused-some n q))
         (λ t. let q : n ≡ with-f = ap (λ (g : Got). g .number) (e ∙ checked-not t) in (q, λ z. eqb-false with-f 0 t (sym q ∙ z)))
@@ -140,16 +140,16 @@ module _ (file : List ℕ) (at : ℕ) where
           ]
 
       -- so they are stopped
-      pub numerals-stop : (m : ℕ) → refused m ≡ checkedBy f file at → numerals bad (suc left) file at before ≡ stopped m
+      pub numerals-stop : (m : ℕ) → refused m ≡ checkedNumeral f file at → numerals bad (suc left) file at before ≡ stopped m
       unfolding numerals
       numerals-stop m e = rw (stop-number m (refused-by f m e), ne-eqb m 0 (refused-by f m e .1))
 
     -- they go on behind a numeral that passes
-    pub numerals-go : (f : ℕ → ℕ) (v p : ℕ) → got v p ≡ checkedBy f file at → bad before v ≡ 0 → numerals bad (suc left) file at before ≡ numerals bad left file p (before ++ v ∷ [])
+    pub numerals-go : (f : ℕ → ℕ) (v p : ℕ) → got v p ≡ checkedNumeral f file at → bad before v ≡ 0 → numerals bad (suc left) file at before ≡ numerals bad left file p (before ++ v ∷ [])
     numerals-go f v p e z = numerals-on v p (passed-numeral f v p e) z
 
     -- they are stopped by one that is bad
-    pub numerals-bad : (f : ℕ → ℕ) (v p m : ℕ) → got v p ≡ checkedBy f file at → bad before v ≡ m → (m ≡ 0 → ⊥) → numerals bad (suc left) file at before ≡ stopped m
+    pub numerals-bad : (f : ℕ → ℕ) (v p m : ℕ) → got v p ≡ checkedNumeral f file at → bad before v ≡ m → (m ≡ 0 → ⊥) → numerals bad (suc left) file at before ≡ stopped m
     numerals-bad f v p m e b n = numerals-wrong v p m (passed-numeral f v p e) b n
 
 -- between two limits, by the tests that the code makes

@@ -13,7 +13,7 @@ use Rattle.jobfile.specs.declared.Numeral.{Numeral}
 use Rattle.jobfile.specs.declared.Numeral.the-variants.{Value, Refused}
 use Rattle.jobfile.specs.declared.FileAnswer.{FileAnswer}
 
--- 01's number, the value and the place for each case of `Numeral`
+-- the rules' number, the value and the place for each case of `Numeral`
 unfoldable pub gotOf : Numeral → Got
 gotOf (Value x place) = record { number = 0; value = x; place = place }
 gotOf (Refused n) = refused n

@@ -5,11 +5,11 @@ ghost use lib.ListN.{length, take};
 ghost use Rattle.racks.specs.Limits.{RACKS, SLOTS};
 ghost use Rattle.racks.specs.Job.{racksOf, jobOf, Sound};
 ghost use Rattle.racks.specs.Racks.{ofCaps};
-ghost use Rattle.tables.specs.parts.Tables.{Marked};
-ghost use Rattle.jobfile.specs.Numeral.{numeral};
+ghost use Rattle.tables.specs.parts.Tables.{UsersMarked};
+ghost use Rattle.jobfile.specs.Numeral.{numeral, lastGroup};
 ghost use Rattle.jobfile.specs.File.{entryOf};
 ghost use Rattle.jobfile.specs.Answers.{gotOf, refusedFile};
-ghost use Rattle.jobfile.specs.parts.Parsing.{lastGroup, between, noHead, room, leftOf, endNumber, CapsRead, HeadRead, EntriesRead, Parsed};
+ghost use Rattle.jobfile.specs.parts.Parsing.{ranged, noHead, roomFor, leftOf, endNumber, CapsRead, HeadRead, EntriesRead, Parsed};
 use crate::FileAnswer;
 use crate::Numeral;
 use answers::Answer;
@@ -66,7 +66,7 @@ fn refused_with(got: Numeral) -> u8
 // The numeral at a place of the file, refused with n where it is below `low` or above `high`.
 pub fn bounded_numeral(file: &[u8], at: usize, low: usize, high: usize, n: u8) -> Numeral
     requires { ⌜ 0 < n ⌝ }
-    ensures { λ r. ⌜ gotOf r ≡ between low high n (now (file .entry)) at ⌝ }
+    ensures { λ r. ⌜ gotOf r ≡ ranged low high n (now (file .entry)) at ⌝ }
 {
     let got = next_numeral(file, at);
     let Numeral::Value(x, _) = got else {
@@ -90,7 +90,7 @@ pub struct Taken {
 // The highest m_p that is not refused, with `total` user slots before it.
 fn room_for(total: usize) -> usize
     requires { ⌜ total ≤ 4032 ⌝ }
-    ensures { λ r. ⌜ r ≡ room total ⌝ }
+    ensures { λ r. ⌜ r ≡ roomFor total ⌝ }
 {
     let left = Job::MAX_TOTAL - total;
     if left < Job::MAX_USERS {
@@ -193,7 +193,7 @@ fn read_entries(
     marks: &mut [u8; Job::MAX_SLOTS],
     places: &mut [u16; Job::MAX_SLOTS],
 ) -> Taken
-    requires { ⌜ Sound job × Marked (racksOf job) (now marks) × (length (now places) ≡ SLOTS) ⌝ }
+    requires { ⌜ Sound job × UsersMarked (racksOf job) (now marks) × (length (now places) ≡ SLOTS) ⌝ }
     ensures { λ r. ⌜ EntriesRead (racksOf job) (now (file .entry)) at r (now (places .exit)) ⌝ }
 {
     let mut place = at;

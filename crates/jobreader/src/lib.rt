@@ -1,4 +1,4 @@
-// The reader of job files in the form that 01 names: a struct that holds the file and a place in it, and an answer that holds the
+// The reader of job files in the form that the rules name: a struct that holds the file and a place in it, and an answer that holds the
 // card bytes as a part of the file. Thin functions over the covered ones of `jobfile`.
 ghost use Rattle.jobreader.specs.Reading.{Stepped, Next, JobRead, New};
 use answers::Answer;

@@ -11,7 +11,7 @@ use Rattle.counting.specs.Every.{All}
 use Rattle.counting.specs.Every.All.{none, more}
 use mathlib.Core.Bool.{not}
 use Rattle.racks.specs.Racks.{slots}
-use Rattle.jobfile.specs.Numeral.{groups, numeral, numerals}
+use Rattle.jobfile.specs.Numeral.{groups, numeral, numerals, lastGroup}
 use Rattle.jobfile.specs.File.{wrongN, wrongB, wrongM, wrongEntry, readN, readB, readM, readEntries, fileRacks, fileChecks}
 use Rattle.listing.specs.Listing.{programChecks}
 
@@ -27,7 +27,7 @@ first-most k (more {x} p r) = by-test (x .0) (λ e. rw e p) (λ e. rw e (first-m
 
 -- a numeral of the file is refused with 14 or 15
 groups-most : (m : ℕ) (file : List ℕ) (at value weight : ℕ) → groups m file at value weight .number ≤ 15
-unfolding groups
+unfolding groups lastGroup
 groups-most zero file at value weight = omega arith
 groups-most (suc m) file at value weight =
     let x = getD file at 0 in

@@ -6,7 +6,7 @@ use racks::Job;
 
 // The entry of slot `g` after the run.
 fn settled(deal: Deal, g: usize) -> u16 {
-    if g >= 4096 {
+    if Job::MAX_SLOTS <= g {
         return Job::FREE;
     }
     if deal::destination(deal, g) == Job::FREE {

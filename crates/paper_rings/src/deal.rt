@@ -1,5 +1,6 @@
 // Where every card of a job goes, and its bytes.
-ghost use Prim.Native.Nat.{_<_};
+ghost use Prim.Native.Nat.{_*_, _<_};
+ghost use Rattle.racks.specs.Limits.{SLOTS};
 use racks::Job;
 
 // Even: the same place of the next of 4 racks of 1,008. Uneven: 1,023 user slots on, round racks of 1,023 1,023 1,023 963.
@@ -14,7 +15,7 @@ pub enum Deal {
 }
 
 fn even(g: u16) -> u16
-    requires { ⌜ g < 4096 ⌝ }
+    requires { ⌜ g < SLOTS ⌝ }
 {
     if g % 1009 == 1008 {
         return Job::FREE;
@@ -27,14 +28,14 @@ fn even(g: u16) -> u16
 
 // The user slot `u` of 4,032, counted through racks of 1,023 1,023 1,023 963, as a slot; round from the last to the first.
 fn uneven_slot(u: u16) -> u16
-    requires { ⌜ u < 8192 ⌝ }
+    requires { ⌜ u < 2 * SLOTS ⌝ }
 {
     let v = u % 4032;
     v + v / 1023
 }
 
 fn uneven(g: u16) -> u16
-    requires { ⌜ g < 4096 ⌝ }
+    requires { ⌜ g < SLOTS ⌝ }
 {
     if g % 1024 == 1023 {
         return Job::FREE;
@@ -46,7 +47,7 @@ fn uneven(g: u16) -> u16
 }
 
 fn transposed(g: u16) -> u16
-    requires { ⌜ g < 4096 ⌝ }
+    requires { ⌜ g < SLOTS ⌝ }
 {
     if g % 64 == 63 {
         return Job::FREE;
@@ -58,7 +59,7 @@ fn transposed(g: u16) -> u16
 }
 
 fn spread(g: u16) -> u16
-    requires { ⌜ g < 4096 ⌝ }
+    requires { ⌜ g < SLOTS ⌝ }
 {
     if g % 64 == 63 {
         return Job::FREE;
@@ -68,7 +69,7 @@ fn spread(g: u16) -> u16
 }
 
 fn swapped(g: u16) -> u16
-    requires { ⌜ g < 4096 ⌝ }
+    requires { ⌜ g < SLOTS ⌝ }
 {
     if g == 1023 {
         return Job::FREE;
@@ -84,7 +85,7 @@ fn swapped(g: u16) -> u16
 
 // Where the card in slot `g` goes; the spares are free.
 pub fn destination(deal: Deal, g: usize) -> u16 {
-    if g >= 4096 {
+    if Job::MAX_SLOTS <= g {
         return Job::FREE;
     }
     let s = g as u16;

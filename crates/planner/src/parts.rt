@@ -6,7 +6,7 @@ ghost use Rattle.answers.specs.Answers.{listedOf};
 ghost use Rattle.racks.specs.Job.{racksOf, Fit};
 ghost use Rattle.tables.specs.parts.Tables.{Open};
 ghost use Rattle.plans.specs.Plan.{plan};
-ghost use Rattle.queues.specs.parts.Queues.{Written};
+ghost use Rattle.queues.specs.parts.Queues.{PairsWritten};
 ghost use Rattle.planner.specs.parts.Planned.{plannedBy};
 use answers::Answer;
 use answers::Tally;
@@ -34,12 +34,12 @@ pub fn write_plan(
     lent: &mut [u16],
 ) -> usize
     requires { ⌜ Open job (now places) (now racking) × (2 * length (plan (racksOf job) (now places)) ≤ length (now lent)) ⌝ }
-    ensures { λ r. ⌜ Written (plan (racksOf job) (now (places .entry))) (now (lent .entry)) 0 (now (lent .exit)) r ⌝ }
+    ensures { λ r. ⌜ PairsWritten (plan (racksOf job) (now (places .entry))) (now (lent .entry)) 0 (now (lent .exit)) r ⌝ }
 {
     let mut line = [0u16; line::LINE];
     let mut bits = [0u64; bits::parts::WORDS];
     arrivals::queue_up(job, places, racking, &mut line, &mut bits);
-    planning::plan_phase(&mut line, &mut bits, lent, 0)
+    planning::plan_phase(&job.ends, &mut line, &mut bits, lent, 0)
 }
 
 // The phase plan, by the job.

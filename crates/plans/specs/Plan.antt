@@ -53,7 +53,7 @@ planFor racks places p = pairUp (arrivals racks places p) (openSlots racks place
 unfoldable pub plan : List Rack → List ℕ → List Pair
 plan racks places = join (tabulate (length racks) (planFor racks places))
 
--- 1 to 6, and 13
+-- 1, 3 to 6, and 13
 unfoldable pub planChecks : List Rack → List ℕ → List ℕ → List Check
 planChecks racks places lent = tableChecks racks places ++ (tooShort lent (flat (plan racks places)), 13) ∷ []
 

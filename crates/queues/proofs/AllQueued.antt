@@ -1,7 +1,7 @@
 -- After all slots the line and the set of free slots are the rows of the table. Assumes nothing.
 use mathlib.Core.Path.{_≡_, sym, ap, _∙_}
 use mathlib.Core.List.{List}
-use Prim.Native.Nat.{ℕ, suc, _+_, _^_, _≤_, _<_}
+use Prim.Native.Nat.{ℕ, _+_, _^_, _≤_, _<_}
 use native.Mathlib.Omega.{arith}
 use native.Mathlib.Decide.{ℕ-discrete, decLt}
 use lib.Dec.{ltb}
@@ -10,10 +10,10 @@ use lib.Seq.{getD-set-same}
 use borrow.Author.Tests.{le-ltb}
 use Rattle.counting.specs.Tests.{pick}
 use Rattle.counting.proofs.Tests.{by-test}
-use Rattle.racks.specs.Racks.{Rack, slots}
-use Rattle.racks.specs.Job.{racksOf}
+use Rattle.racks.specs.Racks.{Rack, base, slots}
+use Rattle.racks.specs.Job.{startIn, racksOf}
 use Rattle.racks.specs.declared.Job.{Job}
-use Rattle.racks.proofs.Geometry.{base-mono, end-le}
+use Rattle.racks.proofs.Geometry.{end-le}
 use Rattle.racks.proofs.Jobs.{sound-few}
 use Rattle.tables.specs.parts.Tables.{Open}
 use Rattle.bits.specs.parts.Bits.{bitOn, turnedOn}
@@ -55,10 +55,11 @@ awaiting-more {n} {line} {word} {word′} a e = record {
 
 module _ (racks : List Rack) (places racking : List ℕ) (t : Tabled racks places racking) where
   -- the rows after all slots
-  pub queues-ready : (n : ℕ) (start line bits : List ℕ) (word : ℕ) → n ≡ length racks → word < 2 ^ 64 → Placed racks places n start → Queueing racks places start (slots racks) line
-      → Opened places bits → Awaiting n line word → Ready racks places (rowsOf line (set bits 65 word))
+  pub queues-ready : (ends : List ℕ) → ((p : ℕ) → p < length racks → startIn ends p ≡ base racks p) → ((p : ℕ) → p < 64 → startIn ends p ≤ 4096)
+      → (n : ℕ) (start line bits : List ℕ) (word : ℕ) → n ≡ length racks → word < 2 ^ 64 → Placed racks places n start → Queueing racks places start (slots racks) line
+      → Opened places bits → Awaiting n line word → Ready racks places (rowsOf ends line (set bits 65 word))
   unfolding begins
-  queues-ready n start line bits word en fw f q c a =
+  queues-ready ends starts small n start line bits word en fw f q c a =
       record {
         bounded =
             record {
@@ -72,7 +73,7 @@ module _ (racks : List Rack) (places racking : List ℕ) (t : Tabled racks place
         waits = λ p l. rw (head-is p l, q .tails-are p l) (q .waits p l);
         shown = shown;
         rooms-are = λ p l. q .rooms-same p (omega (arith, t .few)) ∙ f .rooms-are p (omega arith);
-        lows-are = λ p l. q .lows-same p (omega (arith, t .few)) ∙ f .lows-are p (omega arith);
+        lows-are = starts;
         others = λ p l m. head-none p l m ∙ sym (tail-none p l m);
         others-full = λ p l m. q .rooms-same p m ∙ f .rooms-none p (omega arith) m;
       }
@@ -89,20 +90,19 @@ module _ (racks : List Rack) (places racking : List ℕ) (t : Tabled racks place
       shown : Shown (slots racks) places (set bits 65 word)
       shown k l = beside-kept bits word k (omega (arith, t .small)) ∙ c .shown k (omega (arith, t .legal .long))
 
-      visitable : (p : ℕ) → p < 64 → Visitable (rowsOf line (set bits 65 word)) p
+      visitable : (p : ℕ) → p < 64 → Visitable (rowsOf ends line (set bits 65 word)) p
       visitable p m = elim (decLt p (length racks)) [
         | yes l ↦
-            let low : rowsOf line (set bits 65 word) .lows p ≡ _ = q .lows-same p m ∙ f .lows-are p (omega arith) in
             record {
               queued = omega (arith, head-is p l, q .tails-are p l, tail-up racks places p (slots racks));
               within = omega (arith, q .tails-are p l, tail-room racks places p (t .legal) (slots racks) (omega arith), end-le racks p l, t .small);
-              low-in = omega (arith, low, base-mono racks p (suc p) (omega arith), end-le racks p l, t .small);
-              roomy = rw low (omega (arith, q .rooms-same p m, f .rooms-are p (omega arith), opens-roomy racks places p l (t .small) (set bits 65 word) shown));
+              low-in = small p m;
+              roomy = rw (starts p l) (omega (arith, q .rooms-same p m, f .rooms-are p (omega arith), opens-roomy racks places p l (t .small) (set bits 65 word) shown));
             }
         | no l ↦ record {
           queued = omega (arith, head-none p (omega arith) m);
           within = omega (arith, tail-none p (omega arith) m);
-          low-in = omega (arith, q .lows-same p m, f .lows-none p (omega arith) m);
+          low-in = small p m;
           roomy = omega (arith, q .rooms-same p m, f .rooms-none p (omega arith) m);
         }
       ]

@@ -7,7 +7,7 @@ use native.Mathlib.Omega.{arith}
 use lib.ListN.{length, getD, set, replicate, length-set, length-replicate}
 use lib.Seq.{length-take-le, take-set-le, take-set-lt, getD-take, getD-set-same, getD-set-other, ext-getD}
 use Rattle.counting.proofs.Lists.{zeros}
-use Rattle.queues.specs.parts.Line.{Blank, queueOf, headOf, tailOf, roomOf, lowOf}
+use Rattle.queues.specs.parts.Line.{Blank, queueOf, headOf, tailOf, roomOf}
 use Rattle.queues.specs.parts.Queues.{visited}
 use Rattle.queues.specs.parts.Queued.{placed}
 
@@ -20,7 +20,7 @@ blank-zeros n = record { zero = zeros n; long = length-replicate {A = ℕ} n 0 }
 
 module _ (line : List ℕ) where
   -- the queues have their places
-  pub queue-long : length line ≡ 4416 → length (queueOf line) ≡ 4160
+  pub queue-long : length line ≡ 4352 → length (queueOf line) ≡ 4160
   unfolding queueOf
   queue-long e = length-take-le 4160 line (omega arith)
 
@@ -40,11 +40,11 @@ module _ (line : List ℕ) where
   queue-stored i x l = take-set-lt 4160 line i x l
 
 -- rack p visited
-module _ (line : List ℕ) (e : length line ≡ 4416) (p r : ℕ) (l : p < 64) where
+module _ (line : List ℕ) (e : length line ≡ 4352) (p r : ℕ) (l : p < 64) where
   middle : List ℕ
   middle = set line (4160 + p) (headOf line p + r)
 
-  pub visited-long : length (visited p r line) ≡ 4416
+  pub visited-long : length (visited p r line) ≡ 4352
   unfolding visited
   visited-long = length-set (set line (4160 + p) (headOf line p + r)) (4288 + p) (roomOf line p - r) ∙ length-set line (4160 + p) (headOf line p + r) ∙ e
 
@@ -81,58 +81,42 @@ module _ (line : List ℕ) (e : length line ≡ 4416) (p r : ℕ) (l : p < 64) w
   pub visited-rooms : (q : ℕ) → q < 64 → q ≢ p → roomOf (visited p r line) q ≡ roomOf line q
   visited-rooms q m d = visited-else (4288 + q) (λ i. omega arith) (λ i. d (omega arith))
 
-  pub visited-lows : (q : ℕ) → q < 64 → lowOf (visited p r line) q ≡ lowOf line q
-  visited-lows q m = visited-else (4352 + q) (λ i. omega arith) (λ i. omega arith)
-
 -- rack p placed
-module _ (line : List ℕ) (e : length line ≡ 4416) (p low rooms : ℕ) (l : p < 64) where
+module _ (line : List ℕ) (e : length line ≡ 4352) (p low rooms : ℕ) (l : p < 64) where
   a : List ℕ
   a = set line (4160 + p) (low + p)
 
   b : List ℕ
   b = set a (4224 + p) (low + p)
 
-  c : List ℕ
-  c = set b (4288 + p) rooms
-
-  a-long : length a ≡ 4416
+  a-long : length a ≡ 4352
   unfolding a
   a-long = length-set line (4160 + p) (low + p) ∙ e
 
-  b-long : length b ≡ 4416
+  b-long : length b ≡ 4352
   unfolding b
   b-long = length-set a (4224 + p) (low + p) ∙ a-long
 
-  c-long : length c ≡ 4416
-  unfolding c
-  c-long = length-set b (4288 + p) rooms ∙ b-long
+  pub placed-long : length (placed p low rooms line) ≡ 4352
+  unfolding placed a b
+  placed-long = length-set b (4288 + p) rooms ∙ b-long
 
-  pub placed-long : length (placed p low rooms line) ≡ 4416
-  unfolding placed a b c
-  placed-long = length-set c (4352 + p) low ∙ c-long
-
-  pub placed-else : (k : ℕ) → k ≢ 4160 + p → k ≢ 4224 + p → k ≢ 4288 + p → k ≢ 4352 + p → getD (placed p low rooms line) k 0 ≡ getD line k 0
-  unfolding placed a b c
-  placed-else k h t r m =
-      getD-set-other c (4352 + p) k low 0 m ∙ getD-set-other b (4288 + p) k rooms 0 r
-      ∙ getD-set-other a (4224 + p) k (low + p) 0 t ∙ getD-set-other line (4160 + p) k (low + p) 0 h
+  pub placed-else : (k : ℕ) → k ≢ 4160 + p → k ≢ 4224 + p → k ≢ 4288 + p → getD (placed p low rooms line) k 0 ≡ getD line k 0
+  unfolding placed a b
+  placed-else k h t r =
+      getD-set-other b (4288 + p) k rooms 0 r ∙ getD-set-other a (4224 + p) k (low + p) 0 t ∙ getD-set-other line (4160 + p) k (low + p) 0 h
 
   pub placed-head : headOf (placed p low rooms line) p ≡ low + p
-  unfolding placed a b c
+  unfolding placed a b
   placed-head =
-      getD-set-other c (4352 + p) (4160 + p) low 0 (λ q. omega arith) ∙ getD-set-other b (4288 + p) (4160 + p) rooms 0 (λ q. omega arith)
-      ∙ getD-set-other a (4224 + p) (4160 + p) (low + p) 0 (λ q. omega arith) ∙ getD-set-same line (4160 + p) (low + p) 0 (omega arith)
+      getD-set-other b (4288 + p) (4160 + p) rooms 0 (λ q. omega arith) ∙ getD-set-other a (4224 + p) (4160 + p) (low + p) 0 (λ q. omega arith)
+      ∙ getD-set-same line (4160 + p) (low + p) 0 (omega arith)
 
   pub placed-tail : tailOf (placed p low rooms line) p ≡ low + p
-  unfolding placed a b c
+  unfolding placed a b
   placed-tail =
-      getD-set-other c (4352 + p) (4224 + p) low 0 (λ q. omega arith) ∙ getD-set-other b (4288 + p) (4224 + p) rooms 0 (λ q. omega arith)
-      ∙ getD-set-same a (4224 + p) (low + p) 0 (omega (arith, a-long))
+      getD-set-other b (4288 + p) (4224 + p) rooms 0 (λ q. omega arith) ∙ getD-set-same a (4224 + p) (low + p) 0 (omega (arith, a-long))
 
   pub placed-room : roomOf (placed p low rooms line) p ≡ rooms
-  unfolding placed a b c
-  placed-room = getD-set-other c (4352 + p) (4288 + p) low 0 (λ q. omega arith) ∙ getD-set-same b (4288 + p) rooms 0 (omega (arith, b-long))
-
-  pub placed-low : lowOf (placed p low rooms line) p ≡ low
-  unfolding placed a b c
-  placed-low = getD-set-same c (4352 + p) low 0 (omega (arith, c-long))
+  unfolding placed a b
+  placed-room = getD-set-same b (4288 + p) rooms 0 (omega (arith, b-long))

@@ -14,7 +14,7 @@ use Rattle.counting.specs.Count.{select}
 use Rattle.counting.proofs.Tests.{and-l, and-r, and-off-l}
 use Rattle.counting.proofs.Count.{count-some, count-le}
 use Rattle.counting.proofs.Select.{select-none, select-split, length-select}
-use Rattle.bits.specs.parts.Bits.{isOn, Next}
+use Rattle.bits.specs.parts.Bits.{isOn, NextOn}
 use Rattle.queues.specs.parts.Queues.{openFrom, opens}
 
 module _ (bits : List ℕ) (low g : ℕ) where
@@ -48,7 +48,7 @@ open-split bits low middle high l m =
     (λ g i _. open-above bits low g (omega arith) ∙ sym (open-above bits middle g i))
 
 -- t is the next of the set from low on
-module _ (bits : List ℕ) {low t : ℕ} (o : Next (isOn bits) low 4096 t) where
+module _ (bits : List ℕ) {low t : ℕ} (o : NextOn (isOn bits) low 4096 t) where
   -- none lies before it
   before : (g : ℕ) → g < t → openFrom bits low g ≡ false
   before g l = elim (decLt g low) [

@@ -12,9 +12,10 @@ use Rattle.counting.specs.Lists.{pairUp, flat}
 use Rattle.counting.proofs.Tests.{no-way}
 use Rattle.counting.proofs.Pairs.{length-pairUp}
 use Rattle.counting.proofs.Stores.{sets-flat-none, sets-flat-more}
-use Rattle.bits.specs.parts.Bits.{bitOn, turnedOff, isOn, Next, Walking, Onward, Walked}
+use Rattle.racks.specs.Job.{startIn}
+use Rattle.bits.specs.parts.Bits.{bitOn, turnedOff, isOn, NextOn, Walking, Onward, WalkedOn}
 use Rattle.bits.proofs.Walks.{onward, walk-next, walk-more, some-bit}
-use Rattle.queues.specs.parts.Line.{queueOf, headOf, tailOf, roomOf, lowOf}
+use Rattle.queues.specs.parts.Line.{queueOf, headOf, tailOf, roomOf}
 use Rattle.queues.specs.parts.Queues.{Rows, rowsOf, opens, part, served, sent, pairsFor, Visitable, visited, Visited}
 use Rattle.queues.proofs.Opens.{open-some, open-first}
 
@@ -30,7 +31,7 @@ module _ (bits queue : List ℕ) (head end low : ℕ) where
   served-long l m = omega (arith, length-pairUp (part queue head end) (opens bits low 4096), length-slice head end queue l)
 
   -- t is the next free slot, and a card is left: the two are the first pair
-  pub served-first : {t : ℕ} → Next (isOn bits) low 4096 t → head < end → end ≤ length queue → t < 4096
+  pub served-first : {t : ℕ} → NextOn (isOn bits) low 4096 t → head < end → end ≤ length queue → t < 4096
       → served bits queue head end low ≡ (getD queue head 0, t) ∷ served bits queue (head + 1) end (t + 1)
   unfolding served part pairUp
   served-first o l q m = rw (open-first bits o 4096 m (omega arith), slice-cons head end queue 0 l q, add-one head)
@@ -102,7 +103,7 @@ module _ {bits queue : List ℕ} {head end low : ℕ} {before : List ℕ} {at : 
       paired-onward = onward (l .walking) (some .1) (some .2) (some .3)
 
       -- it goes on, and b is the first bit that is left
-      module _ {base′ rest′ b : ℕ} (w : Walked bits base rest base′ rest′) (f : rest′ < 2 ^ 64) (o : Next (bitOn rest′) 0 64 b) where
+      module _ {base′ rest′ b : ℕ} (w : WalkedOn bits base rest base′ rest′) (f : rest′ < 2 ^ 64) (o : NextOn (bitOn rest′) 0 64 b) where
         on : Walking bits (l .t) base′ rest′
         on = w .kept (l .t) (l .walking)
 
@@ -114,11 +115,11 @@ module _ {bits queue : List ℕ} {head end low : ℕ} {before : List ℕ} {at : 
         paired-slot = elim (decLt (base′ + b) 4096) [
           | yes i ↦ i
           | no i ↦
-              let n : Next (isOn bits) (l .t) 4096 4096 = walk-next on o paired-bit (l .left .t-in) (omega arith) in
+              let n : NextOn (isOn bits) (l .t) 4096 4096 = walk-next on o paired-bit (l .left .t-in) (omega arith) in
               absurd (no-way (some .3) (n .passed (some .0) (some .1) (some .2)))
         ]
 
-        slot : Next (isOn bits) (l .t) 4096 (base′ + b)
+        slot : NextOn (isOn bits) (l .t) 4096 (base′ + b)
         slot = walk-next on o paired-bit (l .left .t-in) (omega (arith, paired-slot))
 
         -- one pair more fits the list
@@ -145,16 +146,16 @@ module _ {bits queue : List ℕ} {head end low : ℕ} {before : List ℕ} {at : 
             }
 
 -- a visit of rack p, as the code makes it: it takes the smaller of room and cards
-module _ (line bits : List ℕ) (p made : ℕ) (e : made ≡ min (roomOf line p) (tailOf line p - headOf line p)) where
-  pub visit-made : made ≡ sent (rowsOf line bits) p
+module _ (ends line bits : List ℕ) (p made : ℕ) (e : made ≡ min (roomOf line p) (tailOf line p - headOf line p)) where
+  pub visit-made : made ≡ sent (rowsOf ends line bits) p
   unfolding sent
   visit-made = e
 
-  pub visit-done : (log : List ℕ) (at : ℕ) (log′ : List ℕ) → log′ ≡ sets log at (flat (served bits (queueOf line) (headOf line p) (headOf line p + made) (lowOf line p)))
-      → Visited line bits p log at (set (set line (4160 + p) (headOf line p + made)) (4288 + p) (roomOf line p - made)) log′ made
+  pub visit-done : (log : List ℕ) (at : ℕ) (log′ : List ℕ) {low : ℕ} → low ≡ startIn ends p → log′ ≡ sets log at (flat (served bits (queueOf line) (headOf line p) (headOf line p + made) low))
+      → Visited ends line bits p log at (set (set line (4160 + p) (headOf line p + made)) (4288 + p) (roomOf line p - made)) log′ made
   unfolding visited pairsFor
-  visit-done log at log′ w = record {
+  visit-done log at log′ f w = record {
     made-is = visit-made;
-    list = w ∙ ap (λ (m : ℕ). sets log at (flat (served bits (queueOf line) (headOf line p) (headOf line p + m) (lowOf line p)))) visit-made;
+    list = w ∙ rw (f, ← visit-made);
     line-is = refl;
   }

@@ -17,7 +17,7 @@ use Rattle.plans.specs.Plan.{room}
 use Rattle.queues.specs.parts.Line.{Blank}
 use Rattle.queues.specs.parts.Queued.{freeFrom, begins, placed, Placed}
 use Rattle.queues.proofs.OpenSlots.{rooms-short, on-off, on-here}
-use Rattle.queues.proofs.Line.{placed-long, placed-else, placed-head, placed-tail, placed-room, placed-low}
+use Rattle.queues.proofs.Line.{placed-long, placed-else, placed-head, placed-tail, placed-room}
 
 module _ (places : List ℕ) (low : ℕ) where
   -- no slot below the first counts
@@ -47,17 +47,15 @@ pub rooms-counted : (racks : List Rack) (places : List ℕ) (p low high r : ℕ)
 rooms-counted racks places p low high r l el eh e = e ∙ rw (el, eh) (free-room racks places p l)
 
 -- no rack is placed
-pub placed-none : (racks : List Rack) (places line : List ℕ) → Blank 4416 line → Placed racks places 0 line
+pub placed-none : (racks : List Rack) (places line : List ℕ) → Blank 4352 line → Placed racks places 0 line
 placed-none racks places line e =
     record {
       heads-are = λ p l. absurd (omega arith);
       tails-are = λ p l. absurd (omega arith);
       rooms-are = λ p l. absurd (omega arith);
-      lows-are = λ p l. absurd (omega arith);
       heads-none = λ p l m. e .zero (4160 + p);
       tails-none = λ p l m. e .zero (4224 + p);
       rooms-none = λ p l m. e .zero (4288 + p);
-      lows-none = λ p l m. e .zero (4352 + p);
       long = e .long;
     }
 
@@ -66,15 +64,13 @@ pub placed-more : (racks : List Rack) (places : List ℕ) (p low rooms : ℕ) (l
     → line′ ≡ placed p low rooms line → Placed racks places p line → Placed racks places (p + 1) line′
 unfolding begins
 placed-more racks places p low rooms line line′ l el er e f = rw e (
-    let k : length line ≡ 4416 = f .long in
+    let k : length line ≡ 4352 = f .long in
     record {
-      heads-are = λ q m. elim (ℕ-discrete q p) [ yes i ↦ rw i (placed-head line k p low rooms l ∙ rw el) | no i ↦ placed-else line k p low rooms l (4160 + q) (λ j. i (omega arith)) (λ j. omega arith) (λ j. omega arith) (λ j. omega arith) ∙ f .heads-are q (omega arith) ];
-      tails-are = λ q m. elim (ℕ-discrete q p) [ yes i ↦ rw i (placed-tail line k p low rooms l ∙ rw el) | no i ↦ placed-else line k p low rooms l (4224 + q) (λ j. omega arith) (λ j. i (omega arith)) (λ j. omega arith) (λ j. omega arith) ∙ f .tails-are q (omega arith) ];
-      rooms-are = λ q m. elim (ℕ-discrete q p) [ yes i ↦ rw i (placed-room line k p low rooms l ∙ er) | no i ↦ placed-else line k p low rooms l (4288 + q) (λ j. omega arith) (λ j. omega arith) (λ j. i (omega arith)) (λ j. omega arith) ∙ f .rooms-are q (omega arith) ];
-      lows-are = λ q m. elim (ℕ-discrete q p) [ yes i ↦ rw i (placed-low line k p low rooms l ∙ el) | no i ↦ placed-else line k p low rooms l (4352 + q) (λ j. omega arith) (λ j. omega arith) (λ j. omega arith) (λ j. i (omega arith)) ∙ f .lows-are q (omega arith) ];
-      heads-none = λ q m n. placed-else line k p low rooms l (4160 + q) (λ j. omega arith) (λ j. omega arith) (λ j. omega arith) (λ j. omega arith) ∙ f .heads-none q (omega arith) n;
-      tails-none = λ q m n. placed-else line k p low rooms l (4224 + q) (λ j. omega arith) (λ j. omega arith) (λ j. omega arith) (λ j. omega arith) ∙ f .tails-none q (omega arith) n;
-      rooms-none = λ q m n. placed-else line k p low rooms l (4288 + q) (λ j. omega arith) (λ j. omega arith) (λ j. omega arith) (λ j. omega arith) ∙ f .rooms-none q (omega arith) n;
-      lows-none = λ q m n. placed-else line k p low rooms l (4352 + q) (λ j. omega arith) (λ j. omega arith) (λ j. omega arith) (λ j. omega arith) ∙ f .lows-none q (omega arith) n;
+      heads-are = λ q m. elim (ℕ-discrete q p) [ yes i ↦ rw i (placed-head line k p low rooms l ∙ rw el) | no i ↦ placed-else line k p low rooms l (4160 + q) (λ j. i (omega arith)) (λ j. omega arith) (λ j. omega arith) ∙ f .heads-are q (omega arith) ];
+      tails-are = λ q m. elim (ℕ-discrete q p) [ yes i ↦ rw i (placed-tail line k p low rooms l ∙ rw el) | no i ↦ placed-else line k p low rooms l (4224 + q) (λ j. omega arith) (λ j. i (omega arith)) (λ j. omega arith) ∙ f .tails-are q (omega arith) ];
+      rooms-are = λ q m. elim (ℕ-discrete q p) [ yes i ↦ rw i (placed-room line k p low rooms l ∙ er) | no i ↦ placed-else line k p low rooms l (4288 + q) (λ j. omega arith) (λ j. omega arith) (λ j. i (omega arith)) ∙ f .rooms-are q (omega arith) ];
+      heads-none = λ q m n. placed-else line k p low rooms l (4160 + q) (λ j. omega arith) (λ j. omega arith) (λ j. omega arith) ∙ f .heads-none q (omega arith) n;
+      tails-none = λ q m n. placed-else line k p low rooms l (4224 + q) (λ j. omega arith) (λ j. omega arith) (λ j. omega arith) ∙ f .tails-none q (omega arith) n;
+      rooms-none = λ q m n. placed-else line k p low rooms l (4288 + q) (λ j. omega arith) (λ j. omega arith) (λ j. omega arith) ∙ f .rooms-none q (omega arith) n;
       long = placed-long line k p low rooms l;
     })

@@ -16,12 +16,12 @@ use Rattle.counting.proofs.Tests.{by-test, no-way}
 use Rattle.counting.proofs.Select.{sum-mono, sum-more}
 use Rattle.counting.proofs.Lists.{join-more, length-join}
 use Rattle.counting.proofs.Stores.{length-flat, flat-append, sets-append, sets-flat-none}
-use Rattle.bits.specs.parts.Bits.{bitOn, turnedOff, Next}
+use Rattle.bits.specs.parts.Bits.{bitOn, turnedOff, NextOn}
 use Rattle.bits.proofs.Words.{turned-off-here, turned-off-other}
 use Rattle.bits.proofs.Sets.{beside-kept, topped-beside}
 use Rattle.queues.specs.parts.Line.{headOf, tailOf}
-use Rattle.queues.specs.parts.Queues.{Rows, rowsOf, sent, pairsFor, queuedPlan, Visitable, visited, Visited, Passed, Plannable, PhasePlanned}
-use Rattle.queues.proofs.Line.{visited-long, visited-queue, visited-head, visited-room, visited-heads, visited-tails, visited-rooms, visited-lows}
+use Rattle.queues.specs.parts.Queues.{Rows, rowsOf, sent, pairsFor, queuedPlan, Visitable, visited, Visited, RacksPassed, Plannable, PhasePlanned}
+use Rattle.queues.proofs.Line.{visited-long, visited-queue, visited-head, visited-room, visited-heads, visited-tails, visited-rooms}
 use Rattle.queues.proofs.Pairing.{pairs-long, pairs-none}
 
 module _ (rows : Rows) where
@@ -59,12 +59,12 @@ visit-same h t l r b v = record {
 }
 
 -- p racks are planned; the bits of the others are those of the start
-pub record Planned (p : ℕ) (line bits log : List ℕ) (at : ℕ) (line′ log′ : List ℕ) (count waiting : ℕ) : Type 0 where
+pub record Planned (p : ℕ) (ends line bits log : List ℕ) (at : ℕ) (line′ log′ : List ℕ) (count waiting : ℕ) : Type 0 where
   pub few : p ≤ 64
-  pub list : log′ ≡ sets log at (flat (queuedPlan p (rowsOf line bits)))
-  pub count-is : count ≡ length (queuedPlan p (rowsOf line bits))
-  pub passed : Passed p (rowsOf line bits) (rowsOf line′ bits)
-  pub long : length line′ ≡ 4416
+  pub list : log′ ≡ sets log at (flat (queuedPlan p (rowsOf ends line bits)))
+  pub count-is : count ≡ length (queuedPlan p (rowsOf ends line bits))
+  pub passed : RacksPassed p (rowsOf ends line bits) (rowsOf ends line′ bits)
+  pub long : length line′ ≡ 4352
   pub exact : (q : ℕ) → q < p → bitOn waiting q ≡ ltb (headOf line′ q) (tailOf line′ q)
   pub bits-rest : (q : ℕ) → p ≤ q → bitOn waiting q ≡ bitOn (getD bits 65 0) q
 
@@ -84,7 +84,7 @@ module _ {p start left : ℕ} (a : Ahead p start left) where
     rest = λ q l. turned-off-other left p q (λ e. omega arith) ∙ a .rest q (omega arith);
   }
 
-  module _ {q : ℕ} (o : Next (bitOn left) 0 64 q) where
+  module _ {q : ℕ} (o : NextOn (bitOn left) 0 64 q) where
     -- the first to be visited does not lie before p
     ahead-up : p ≤ 64 → p ≤ q
     ahead-up m = elim (decLe p q) [
@@ -93,7 +93,7 @@ module _ {p start left : ℕ} (a : Ahead p start left) where
     ]
 
     -- it is the first from p on that waited at the start
-    ahead-next : p ≤ 64 → Next (bitOn start) p 64 q
+    ahead-next : p ≤ 64 → NextOn (bitOn start) p 64 q
     ahead-next m = record {
       up = ahead-up m;
       within = o .within;
@@ -109,17 +109,17 @@ module _ {p start left : ℕ} (a : Ahead p start left) where
     }
 
 -- the racks before p are planned, and p is the next to be visited, or there is none
-pub record Reached (p : ℕ) (line bits log : List ℕ) (at : ℕ) (line′ log′ : List ℕ) (count waiting left : ℕ) : Type 0 where
-  pub planned : Planned p line bits log at line′ log′ count waiting
+pub record Reached (p : ℕ) (ends line bits log : List ℕ) (at : ℕ) (line′ log′ : List ℕ) (count waiting left : ℕ) : Type 0 where
+  pub planned : Planned p ends line bits log at line′ log′ count waiting
   pub hit : p < 64 → bitOn waiting p ≡ true
   pub ahead : Ahead p (getD bits 65 0) left
 
-module _ {line bits log : List ℕ} {at : ℕ} (b : Plannable line bits log at) where
+module _ {ends line bits log : List ℕ} {at : ℕ} (b : Plannable ends line bits log at) where
   abbrev rows : Rows
-  rows = rowsOf line bits
+  rows = rowsOf ends line bits
 
   -- no rack is planned yet
-  planned-none : Planned 0 line bits log at line log 0 (getD bits 65 0)
+  planned-none : Planned 0 ends line bits log at line log 0 (getD bits 65 0)
   planned-none =
       record {
         few = omega arith;
@@ -128,7 +128,6 @@ module _ {line bits log : List ℕ} {at : ℕ} (b : Plannable line bits log at) 
         passed = record {
           queue-is = refl;
           tails-are = λ q l. refl;
-          lows-are = λ q l. refl;
           heads-are = λ q l. absurd (omega arith);
           rooms-are = λ q l. absurd (omega arith);
           heads-rest = λ q l m. refl;
@@ -141,7 +140,7 @@ module _ {line bits log : List ℕ} {at : ℕ} (b : Plannable line bits log at) 
 
   module _ {line′ log′ : List ℕ} {count waiting : ℕ} where
     -- a rack whose bit is off has no pair
-    planned-skip : {p : ℕ} → Planned p line bits log at line′ log′ count waiting → p < 64 → bitOn waiting p ≡ false → Planned (p + 1) line bits log at line′ log′ count waiting
+    planned-skip : {p : ℕ} → Planned p ends line bits log at line′ log′ count waiting → p < 64 → bitOn waiting p ≡ false → Planned (p + 1) ends line bits log at line′ log′ count waiting
     unfolding sent
     planned-skip {p} s m o =
         let off : ltb (headOf line p) (tailOf line p) ≡ false = sym (b .bounded .exact p m) ∙ sym (s .bits-rest p (omega arith)) ∙ o in
@@ -149,7 +148,7 @@ module _ {line bits log : List ℕ} {at : ℕ} (b : Plannable line bits log at) 
         let none : pairsFor rows p ≡ [] = pairs-none rows p over in
         let same : queuedPlan (p + 1) rows ≡ queuedPlan p rows = queued-more rows p ∙ rw (none, append-nil) in
         let h : headOf line′ p ≡ headOf line p = s .passed .heads-rest p (omega arith) m in
-        let r : rowsOf line′ bits .rooms p ≡ rows .rooms p = s .passed .rooms-rest p (omega arith) m in
+        let r : rowsOf ends line′ bits .rooms p ≡ rows .rooms p = s .passed .rooms-rest p (omega arith) m in
         record {
           few = omega arith;
           list = rw same (s .list);
@@ -157,7 +156,6 @@ module _ {line bits log : List ℕ} {at : ℕ} (b : Plannable line bits log at) 
           passed = record {
             queue-is = s .passed .queue-is;
             tails-are = s .passed .tails-are;
-            lows-are = s .passed .lows-are;
             heads-are = λ q l. elim (ℕ-discrete q p) [
               | yes e ↦ rw e (omega (arith, h))
               | no e ↦ s .passed .heads-are q (omega arith)
@@ -178,8 +176,8 @@ module _ {line bits log : List ℕ} {at : ℕ} (b : Plannable line bits log at) 
         }
 
     -- nor have the racks up to the next whose bit is on
-    planned-to : {p : ℕ} → Planned p line bits log at line′ log′ count waiting → (q : ℕ) → p ≤ q → q ≤ 64 → ((k : ℕ) → p ≤ k → k < q → bitOn waiting k ≡ false)
-        → Planned q line bits log at line′ log′ count waiting
+    planned-to : {p : ℕ} → Planned p ends line bits log at line′ log′ count waiting → (q : ℕ) → p ≤ q → q ≤ 64 → ((k : ℕ) → p ≤ k → k < q → bitOn waiting k ≡ false)
+        → Planned q ends line bits log at line′ log′ count waiting
     planned-to {p} s zero l m f = let e : p ≡ 0 = omega arith in rw e at s
     planned-to {p} s (suc q) l m f = elim (decLe p q) [
       | yes i ↦ rw (← (add-one q)) (planned-skip (planned-to s q i (omega arith) (λ k a c. f k a (omega arith))) (omega arith) (f q i (omega arith)))
@@ -187,11 +185,11 @@ module _ {line bits log : List ℕ} {at : ℕ} (b : Plannable line bits log at) 
     ]
 
     -- the next to be visited is reached
-    pub reached-next : {p q left : ℕ} → Planned p line bits log at line′ log′ count waiting → Ahead p (getD bits 65 0) left → Next (bitOn left) 0 64 q
-        → Reached q line bits log at line′ log′ count waiting left
+    pub reached-next : {p q left : ℕ} → Planned p ends line bits log at line′ log′ count waiting → Ahead p (getD bits 65 0) left → NextOn (bitOn left) 0 64 q
+        → Reached q ends line bits log at line′ log′ count waiting left
     reached-next {p} {q} s a o =
         let m : p ≤ 64 = s .few in
-        let i : Next (bitOn (getD bits 65 0)) p 64 q = ahead-next a o m in
+        let i : NextOn (bitOn (getD bits 65 0)) p 64 q = ahead-next a o m in
         record {
           planned = planned-to s q (i .up) (i .within) (λ k l j. s .bits-rest k l ∙ i .passed k l j);
           hit = λ l. s .bits-rest q (i .up) ∙ i .hit l;
@@ -199,19 +197,19 @@ module _ {line bits log : List ℕ} {at : ℕ} (b : Plannable line bits log at) 
         }
 
   -- the first rack that waits
-  pub reached-first : {p : ℕ} → Next (bitOn (getD bits 65 0)) 0 64 p → Reached p line bits log at line log 0 (getD bits 65 0) (getD bits 65 0)
+  pub reached-first : {p : ℕ} → NextOn (bitOn (getD bits 65 0)) 0 64 p → Reached p ends line bits log at line log 0 (getD bits 65 0) (getD bits 65 0)
   reached-first o = reached-next planned-none (record { below = λ q l. absurd (omega arith); rest = λ q l. refl }) o
 
-  module _ {p : ℕ} {line′ log′ : List ℕ} {count waiting left : ℕ} (r : Reached p line bits log at line′ log′ count waiting left) where
+  module _ {p : ℕ} {line′ log′ : List ℕ} {count waiting left : ℕ} (r : Reached p ends line bits log at line′ log′ count waiting left) where
     -- the log is as long as it was
     pub planned-long : length log′ ≡ length log
     planned-long = ap length (r .planned .list) ∙ length-sets log at (flat (queuedPlan p rows))
 
     -- all racks are planned
-    pub planned-all : 64 ≤ p → waiting < 2 ^ 64 → PhasePlanned line bits log at line′ (set bits 65 waiting) log′ count
+    pub planned-all : 64 ≤ p → waiting < 2 ^ 64 → PhasePlanned ends line bits log at line′ (set bits 65 waiting) log′ count
     planned-all l f =
         let e : p ≡ 64 = omega (arith, r .planned .few) in
-        let s : Planned 64 line bits log at line′ log′ count waiting = rw e at (r .planned) in
+        let s : Planned 64 ends line bits log at line′ log′ count waiting = rw e at (r .planned) in
         record {
           written = record { list = s .list; count-is = s .count-is };
           passed = s .passed;
@@ -227,40 +225,40 @@ module _ {line bits log : List ℕ} {at : ℕ} (b : Plannable line bits log at) 
       head-is : headOf line′ p ≡ headOf line p
       head-is = r .planned .passed .heads-rest p (omega arith) m
 
-      room-is : rowsOf line′ bits .rooms p ≡ rows .rooms p
+      room-is : rowsOf ends line′ bits .rooms p ≡ rows .rooms p
       room-is = r .planned .passed .rooms-rest p (omega arith) m
 
-      sent-is : sent (rowsOf line′ bits) p ≡ sent rows p
+      sent-is : sent (rowsOf ends line′ bits) p ≡ sent rows p
       unfolding sent
       sent-is = rw (head-is, room-is, r .planned .passed .tails-are p m)
 
-      pairs-are : pairsFor (rowsOf line′ bits) p ≡ pairsFor rows p
+      pairs-are : pairsFor (rowsOf ends line′ bits) p ≡ pairsFor rows p
       unfolding pairsFor
-      pairs-are = rw (head-is, sent-is, r .planned .passed .queue-is, r .planned .passed .lows-are p m)
+      pairs-are = rw (head-is, sent-is, r .planned .passed .queue-is)
 
       many : length (pairsFor rows p) ≡ sent rows p
       many = pairs-long rows p (b .bounded .racks p m) (b .bounded .queue-long)
 
       -- it can be visited
-      pub next-visitable : Visitable (rowsOf line′ bits) p
-      next-visitable = visit-same head-is (r .planned .passed .tails-are p m) (r .planned .passed .lows-are p m) room-is refl (b .bounded .racks p m)
+      pub next-visitable : Visitable (rowsOf ends line′ bits) p
+      next-visitable = visit-same head-is (r .planned .passed .tails-are p m) refl room-is refl (b .bounded .racks p m)
 
       -- and its pairs fit the log
-      pub next-fits : at + 2 * count + 2 * sent (rowsOf line′ bits) p ≤ length log′
+      pub next-fits : at + 2 * count + 2 * sent (rowsOf ends line′ bits) p ≤ length log′
       next-fits = omega (arith, r .planned .count-is, planned-long, queued-le rows 64 p m, b .fits, sent-is, many)
 
       -- the next to be visited lies behind it
-      pub reached-up : {q left′ : ℕ} → left′ ≡ turnedOff left p → Next (bitOn left′) 0 64 q → p < q
+      pub reached-up : {q left′ : ℕ} → left′ ≡ turnedOff left p → NextOn (bitOn left′) 0 64 q → p < q
       reached-up {q} {left′} i o =
           let a : Ahead (p + 1) (getD bits 65 0) left′ = rw i (ahead-off (r .ahead)) in
           omega (arith, ahead-up a o (omega arith))
 
-      module _ {line″ log″ : List ℕ} {made : ℕ} (w : Visited line′ bits p log′ (at + 2 * count) line″ log″ made) where
+      module _ {line″ log″ : List ℕ} {made : ℕ} (w : Visited ends line′ bits p log′ (at + 2 * count) line″ log″ made) where
         made-is : made ≡ sent rows p
         made-is = w .made-is ∙ sent-is
 
         -- the line is as long
-        pub next-long : length line″ ≡ 4416
+        pub next-long : length line″ ≡ 4352
         next-long = ap length (w .line-is) ∙ visited-long line′ (r .planned .long) p made m
 
         -- the pairs counted are no more than the log has room for
@@ -281,7 +279,7 @@ module _ {line bits log : List ℕ} {at : ℕ} (b : Plannable line bits log at) 
               (λ t. rw (e, t) (turned-off-here waiting p))
 
           -- p is planned
-          planned-more : Planned (p + 1) line bits log at line″ log″ (count + made) waiting′
+          planned-more : Planned (p + 1) ends line bits log at line″ log″ (count + made) waiting′
           planned-more =
               let s = r .planned in
               record {
@@ -297,14 +295,13 @@ module _ {line bits log : List ℕ} {at : ℕ} (b : Plannable line bits log at) 
                 bits-rest = λ q l. bit-kept q (λ i. omega arith) ∙ s .bits-rest q (omega arith);
               }
             where
-              passed : Passed (p + 1) rows (rowsOf (visited p made line′) bits)
+              passed : RacksPassed (p + 1) rows (rowsOf ends (visited p made line′) bits)
               passed =
                   let s = r .planned .passed in
                   let k = r .planned .long in
                   record {
                     queue-is = visited-queue line′ k p made m ∙ s .queue-is;
                     tails-are = λ q l. visited-tails line′ k p made m q l ∙ s .tails-are q l;
-                    lows-are = λ q l. visited-lows line′ k p made m q l ∙ s .lows-are q l;
                     heads-are = λ q l. elim (ℕ-discrete q p) [
                       | yes i ↦ rw i (omega (arith, visited-head line′ k p made m, head-is, made-is))
                       | no i ↦ visited-heads line′ k p made m q (omega arith) i ∙ s .heads-are q (omega arith)
@@ -318,6 +315,6 @@ module _ {line bits log : List ℕ} {at : ℕ} (b : Plannable line bits log at) 
                   }
 
           -- and the next rack to be visited is reached
-          pub reached-more : {q left′ : ℕ} → left′ ≡ turnedOff left p → Next (bitOn left′) 0 64 q
-              → Reached q line bits log at line″ log″ (count + made) waiting′ left′
+          pub reached-more : {q left′ : ℕ} → left′ ≡ turnedOff left p → NextOn (bitOn left′) 0 64 q
+              → Reached q ends line bits log at line″ log″ (count + made) waiting′ left′
           reached-more {q} {left′} i o = let a : Ahead (p + 1) (getD bits 65 0) left′ = rw i (ahead-off (r .ahead)) in reached-next planned-more a o

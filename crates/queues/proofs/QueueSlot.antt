@@ -22,8 +22,8 @@ abbrev pub stored : List ℕ → ℕ → ℕ → ℕ → List ℕ
 stored line p g y = set (set line (tailOf line p) g) (4224 + p) y
 
 -- a line in which the tail of rack p's queue lies in the queues
-module _ (line : List ℕ) (p g y : ℕ) (e : length line ≡ 4416) (m : p < 64) (f : tailOf line p < 4160) where
-  pub stored-long : length (stored line p g y) ≡ 4416
+module _ (line : List ℕ) (p g y : ℕ) (e : length line ≡ 4352) (m : p < 64) (f : tailOf line p < 4160) where
+  pub stored-long : length (stored line p g y) ≡ 4352
   stored-long = length-set (set line (tailOf line p) g) (4224 + p) y ∙ length-set line (tailOf line p) g ∙ e
 
   pub stored-queue : queueOf (stored line p g y) ≡ set (queueOf line) (tailOf line p) g

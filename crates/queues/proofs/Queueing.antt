@@ -17,7 +17,7 @@ use Rattle.racks.specs.parts.Legal.{Legal}
 use Rattle.racks.proofs.Away.{away-held, to-away, to-rack, to-is}
 use Rattle.tables.specs.parts.Tables.{target, Filled}
 use Rattle.tables.proofs.Targets.{here-lt, target-is, target-lt, named-lt, away-by}
-use Rattle.queues.specs.parts.Line.{queueOf, headOf, tailOf, roomOf, lowOf}
+use Rattle.queues.specs.parts.Line.{queueOf, headOf, tailOf, roomOf}
 use Rattle.queues.specs.parts.Queues.{part}
 use Rattle.queues.specs.parts.Queued.{begins, Placed, queued, Queueable}
 use Rattle.queues.proofs.Stretch.{part-none, part-push, part-before, part-behind}
@@ -38,9 +38,8 @@ pub record Queueing (racks : List Rack) (places start : List ℕ) (g : ℕ) (lin
   pub waits : (p : ℕ) → p < length racks → part (queueOf line) (begins racks p) (tailAt racks places g p) ≡ select g (awayTo racks places p)
   pub heads-same : (p : ℕ) → p < 64 → headOf line p ≡ headOf start p
   pub rooms-same : (p : ℕ) → p < 64 → roomOf line p ≡ roomOf start p
-  pub lows-same : (p : ℕ) → p < 64 → lowOf line p ≡ lowOf start p
   pub tails-same : (p : ℕ) → length racks ≤ p → p < 64 → tailOf line p ≡ tailOf start p
-  pub long : length line ≡ 4416
+  pub long : length line ≡ 4352
 
 -- before the first slot each queue is empty
 pub queueing-none : (racks : List Rack) (places line : List ℕ) {n : ℕ} → n ≡ length racks → Placed racks places n line → Queueing racks places line 0 line
@@ -50,7 +49,6 @@ queueing-none racks places line e f =
       waits = λ p l. rw (tail-none racks places p) (part-none (queueOf line) (begins racks p) ∙ unfold select in refl);
       heads-same = λ p l. refl;
       rooms-same = λ p l. refl;
-      lows-same = λ p l. refl;
       tails-same = λ p l m. refl;
       long = f .long;
     }
@@ -121,7 +119,6 @@ module _ (racks : List Rack) (places racking : List ℕ) (t : Tabled racks place
             waits = λ k m. rw (stored-queue line p g y (q .long) few fits, target-tail) (waits k m);
             heads-same = λ k m. else (4160 + k) (omega arith) (λ i. omega arith) ∙ q .heads-same k m;
             rooms-same = λ k m. else (4288 + k) (omega arith) (λ i. omega arith) ∙ q .rooms-same k m;
-            lows-same = λ k m. else (4352 + k) (omega arith) (λ i. omega arith) ∙ q .lows-same k m;
             tails-same = λ k n m. else (4224 + k) (omega arith) (λ i. omega (arith, to-lt)) ∙ q .tails-same k n m;
             long = stored-long line p g y (q .long) few fits;
           }

@@ -13,7 +13,7 @@ use Rattle.counting.proofs.Pairs.{pairUp-front, pairUp-take}
 use Rattle.racks.specs.Racks.{Rack}
 use Rattle.plans.specs.Plan.{planFor, plan, openSlots}
 use Rattle.plans.proofs.Grants.{plan-for-is}
-use Rattle.queues.specs.parts.Queues.{Rows, rowsOf, PhasePlanned, Written, part, served, sent, pairsFor, queuedPlan}
+use Rattle.queues.specs.parts.Queues.{Rows, rowsOf, PhasePlanned, PairsWritten, part, served, sent, pairsFor, queuedPlan}
 use Rattle.queues.specs.parts.Ready.{Ready}
 use Rattle.queues.proofs.Stretch.{part-take}
 use Rattle.queues.proofs.Pairing.{pairs-none, sent-le}
@@ -66,6 +66,6 @@ module _ (racks : List Rack) (places : List ℕ) (rows : Rows) (r : Ready racks 
           (λ k l. getD-tabulate _ (pairsFor rows) k [] l ∙ ready-for k l))
 
 -- a phase planned from rows that fit the table is the plan of the phase
-pub ready-written : {racks : List Rack} {places line bits log : List ℕ} {at : ℕ} {line′ bits′ log′ : List ℕ} {count : ℕ} → Ready racks places (rowsOf line bits)
-    → PhasePlanned line bits log at line′ bits′ log′ count → Written (plan racks places) log at log′ count
-ready-written {racks} {places} {line} {bits} r p = rw (ready-plan racks places (rowsOf line bits) r) at (p .written)
+pub ready-written : {racks : List Rack} {places ends line bits log : List ℕ} {at : ℕ} {line′ bits′ log′ : List ℕ} {count : ℕ} → Ready racks places (rowsOf ends line bits)
+    → PhasePlanned ends line bits log at line′ bits′ log′ count → PairsWritten (plan racks places) log at log′ count
+ready-written {racks} {places} {ends} {line} {bits} r p = rw (ready-plan racks places (rowsOf ends line bits) r) at (p .written)

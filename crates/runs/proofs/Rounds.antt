@@ -25,7 +25,7 @@ use Rattle.racks.proofs.Geometry.{rack-lt}
 use Rattle.racks.proofs.LegalTable.{legal-dest}
 use Rattle.racks.proofs.Away.{aways-few, away-held, to-is, to-away}
 use Rattle.answers.specs.declared.Tally.{Tally}
-use Rattle.answers.specs.Answers.{noCounts, plusPhase}
+use Rattle.answers.specs.Answers.{noCounts}
 use Rattle.plans.specs.Plan.{plan}
 use Rattle.plans.proofs.Plans.{plan-aways}
 use Rattle.planner.specs.parts.Owed.{cell, Owed}
@@ -46,8 +46,8 @@ use Rattle.budgets.specs.parts.Turns.{Turn}
 use Rattle.budgets.proofs.Turns.{tally-is, going-fixed, turn-first, turn-runnable, turn-more, turn-next, held-is, moves-are}
 use Rattle.runs.specs.Run.{hasPairs, gathered}
 use Rattle.runs.specs.Awaits.{awaits}
-use Rattle.runs.specs.parts.Kept.{Payable, Paid, Awaited, owing}
-use Rattle.runs.specs.parts.Gathered.{phaseCounts, Logged, Round, Set, PhasesMade}
+use Rattle.runs.specs.parts.Kept.{Awaited, owing}
+use Rattle.runs.specs.parts.Gathered.{phaseCounts, Logged, Round, Closable, RoundClosed, Set, PhasesMade}
 use Rattle.runs.proofs.Owing.{owed-paid, owed-payable, awaited-is, awaited-owed}
 
 -- plans that all have pairs are counted whole
@@ -74,7 +74,7 @@ take-sets l vs i h =
     ∙ take-at (take i l ++ vs) (drop (i + length vs) l) (i + length vs) (length-append (take i l) vs ∙ omega (arith, length-take-le i l (omega arith)))
 
 -- one phase more is logged
-logged-more : {done : List (List Pair)} {log log′ : List ℕ} (ms : List Pair) → Logged done log → length (join done) + length ms ≤ 4096 → 12288 ≤ length log → length done < 4096
+logged-more : {done : List (List Pair)} {log log′ : List ℕ} (ms : List Pair) → Logged done log → length (join done) + length ms ≤ 4096 → 8192 ≤ length log → length done < 4096
     → log′ ≡ set (sets log (2 * length (join done)) (flat ms)) (8192 + length done) (length (join done) + length ms) → Logged (done ++ ms ∷ []) log′
 logged-more {done} {log} {log′} ms g few long j e = record {
   pairs =
@@ -83,24 +83,27 @@ logged-more {done} {log} {log′} ms g few long j e = record {
       (take-set-le (2 * length (join done) + length (flat ms)) (sets log (2 * length (join done)) (flat ms)) (8192 + length done) _ (omega (arith, length-flat ms))
       ∙ take-sets log (flat ms) (2 * length (join done)) (omega (arith, length-flat ms))
       ∙ ap (λ (l : List ℕ). l ++ flat ms) (g .pairs));
-  ends = λ i l. elim (ℕ-discrete i (length done)) [
+  ends = λ room i l. elim (ℕ-discrete i (length done)) [
     | yes q ↦
         let all : take (length done + 1) (done ++ ms ∷ []) ≡ done ++ ms ∷ [] = take-all (length done + 1) (done ++ ms ∷ []) (omega (arith, length-append done (ms ∷ []))) in
         rw (q, e, all, join-last done ms)
-        (getD-set-same (sets log (2 * length (join done)) (flat ms)) (8192 + length done) _ 0 (omega (arith, length-sets log (2 * length (join done)) (flat ms))) ∙ sym (length-append (join done) ms))
+        (getD-set-same (sets log (2 * length (join done)) (flat ms)) (8192 + length done) _ 0 (omega (arith, same, length-sets log (2 * length (join done)) (flat ms))) ∙ sym (length-append (join done) ms))
     | no q ↦
         let m : i < length done = omega (arith, length-append done (ms ∷ [])) in
         let front : take (i + 1) (done ++ ms ∷ []) ≡ take (i + 1) done = take-append-le (i + 1) done (ms ∷ []) (omega arith) in
         rw (e, front)
         (getD-set-other (sets log (2 * length (join done)) (flat ms)) (8192 + length done) (8192 + i) _ 0 (λ x. q (omega arith))
         ∙ sets-else (flat ms) log (2 * length (join done)) (8192 + i) (λ x. omega (arith, length-flat ms))
-        ∙ g .ends i m)
+        ∙ g .ends (omega (arith, same)) i m)
   ];
 }
+  where
+    same : length log′ ≡ length log
+    same = ap length e ∙ length-set (sets log (2 * length (join done)) (flat ms)) (8192 + length done) _ ∙ length-sets log (2 * length (join done)) (flat ms)
 
 -- the turn is the same where as many moves are counted and the log is as long
-turn-same : {racks : List Rack} {b k : ℕ} {h₀ : Held} {t t′ : Tally} {h : Held} {line bits log log′ : List ℕ} → t′ .moves ≡ t .moves → length log′ ≡ length log
-    → Turn racks b k h₀ t h line bits log → Turn racks b k h₀ t′ h line bits log′
+turn-same : {racks : List Rack} {ends : List ℕ} {b k : ℕ} {h₀ : Held} {t t′ : Tally} {h : Held} {line bits log log′ : List ℕ} → t′ .moves ≡ t .moves → length log′ ≡ length log
+    → Turn racks ends b k h₀ t h line bits log → Turn racks ends b k h₀ t′ h line bits log′
 turn-same e l s = record {
   within = rw e (s .within);
   legal = s .legal;
@@ -112,8 +115,8 @@ turn-same e l s = record {
   count = rw e (s .count);
 }
 
-module _ {racks : List Rack} {b : ℕ} {h₀ : Held} {done : List (List Pair)} {t : Tally} {h : Held} {racking line bits log dues wants : List ℕ}
-    (r : Round racks b h₀ done t h racking line bits log dues wants) where
+module _ {racks : List Rack} {ends : List ℕ} {b : ℕ} {h₀ : Held} {done : List (List Pair)} {t : Tally} {h : Held} {racking line bits log dues wants : List ℕ}
+    (r : Round racks ends b h₀ done t h racking line bits log dues wants) where
   places-are : h .places ≡ carriedPlaces (join done) (h₀ .places)
   places-are = ap (λ (x : Held). x .places) (r .held-is)
 
@@ -164,10 +167,10 @@ module _ {racks : List Rack} {b : ℕ} {h₀ : Held} {done : List (List Pair)} {
     whole : take (4096 - t .moves) (plan racks (h .places)) ≡ plan racks (h .places)
     whole = take-all (4096 - t .moves) (plan racks (h .places)) (omega (arith, plan-aways racks (h .places), r .turn .count, aways-few racks (h₀ .places), r .fixed .small))
 
-    pub round-runnable : Runnable b 4096 t h racking line bits log
+    pub round-runnable : Runnable ends b 4096 t h racking line bits log
     round-runnable = turn-runnable (r .turn) (r .fixed) round-left
 
-    module _ {t′ : Tally} {h′ : Held} {line′ bits′ log′ : List ℕ} (p : PhaseRun b 4096 t h racking line bits log t′ h′ line′ bits′ log′) where
+    module _ {t′ : Tally} {h′ : Held} {line′ bits′ log′ : List ℕ} (p : PhaseRun ends b 4096 t h racking line bits log t′ h′ line′ bits′ log′) where
       abbrev ms : List Pair
       ms = plan racks (h .places)
 
@@ -180,21 +183,21 @@ module _ {racks : List Rack} {b : ℕ} {h₀ : Held} {done : List (List Pair)} {
       pub round-more : t .moves < t′ .moves
       round-more = turn-more (r .turn) (r .fixed) round-left p e
 
-      next : Turn racks b 4096 h₀ t′ h′ line′ bits′ log′
+      next : Turn racks ends b 4096 h₀ t′ h′ line′ bits′ log′
       next = turn-next (r .turn) (r .fixed) round-left p e
 
       -- the moves made are few
-      pub round-few : t′ .moves ≤ 4096
+      round-few : t′ .moves ≤ 4096
       round-few = next .within
 
       list-is : log′ ≡ sets log (2 * t .moves) (flat ms)
-      list-is = rw (ready-plan racks (h .places) (rowsOf line bits) (r .turn .ready round-left)) at (p .planned .written .list)
+      list-is = rw (ready-plan racks (h .places) (rowsOf ends line bits) (r .turn .ready round-left)) at (p .planned .written .list)
 
-      pub log-same : length log′ ≡ length log
+      log-same : length log′ ≡ length log
       log-same = ap length list-is ∙ length-sets log (2 * t .moves) (flat ms)
 
       -- the phases made are few: each has a move
-      pub round-phases : t .phases < 4096
+      round-phases : t .phases < 4096
       round-phases = omega (arith, r .phases-count, phases-few, ap length (r .phases-are), length-append done (phases racks (h .places)), ap length (phases-step (first-fit (r .fixed .spared)) (r .turn .legal) e))
         where
           fit : Planner racks
@@ -203,37 +206,40 @@ module _ {racks : List Rack} {b : ℕ} {h₀ : Held} {done : List (List Pair)} {
           phases-few : length (phases racks (h₀ .places)) ≤ 4096
           phases-few = omega (arith, all-few (phases-pairs fit (r .legal₀)), phases-moves fit (r .legal₀), aways-few racks (h₀ .places), r .fixed .small)
 
-      pub phases-same : t′ .phases ≡ t .phases
+      phases-same : t′ .phases ≡ t .phases
       phases-same = ap (λ (x : Tally). x .phases) (p .done .tally-is)
 
       -- its pairs stand in the log
-      pub round-pairs : pairsIn log′ (2 * t .moves) (2 * t′ .moves) ≡ ms
-      round-pairs = pairs-all log′ log (2 * t .moves) (2 * t′ .moves) ms list-is (omega (arith, moves-now, length-flat ms)) (omega (arith, round-few, r .log-long))
-
-      pub round-order : (2 * t .moves ≤ 2 * t′ .moves) × (2 * t′ .moves ≤ length log′)
-      round-order = (omega (arith, moves-now), omega (arith, log-same, round-few, r .log-long))
+      round-pairs : pairsIn log′ (2 * t .moves) (2 * t′ .moves) ≡ ms
+      round-pairs = pairs-all log′ log (2 * t .moves) (2 * t′ .moves) ms list-is (omega (arith, moves-now, length-flat ms)) (omega (arith, round-few, next .room))
 
       in-turn : InTurn racks (h .places) ms
       in-turn = plan-in-turn (r .turn .legal)
 
-      -- and can be paid for in both tables
-      pub round-payable : Payable racking (pairsIn log′ (2 * t .moves) (2 * t′ .moves)) dues × Payable racking (pairsIn log′ (2 * t .moves) (2 * t′ .moves)) wants
-      round-payable = rw round-pairs (
-        owed-payable racking (r .fixed .filled) (r .fixed .few) (r .fixed .small) (r .turn .legal) in-turn (r .owed),
-        owed-payable racking (r .fixed .filled) (r .fixed .few) (r .fixed .small) (r .turn .legal) in-turn now-awaited,
-      )
+      -- and can be paid for in both tables: the phase can be closed
+      pub round-closable : Closable t t′ racking log′ dues wants
+      round-closable = record {
+        order = omega (arith, moves-now);
+        few = round-few;
+        phases-few = round-phases;
+        phases-same = phases-same;
+        room = next .room;
+        owes-long = r .owed .long;
+        awaits-long = r .awaited .long;
+        owes-pay = rw round-pairs (owed-payable racking (r .fixed .filled) (r .fixed .few) (r .fixed .small) (r .turn .legal) in-turn (r .owed));
+        awaits-pay = rw round-pairs (owed-payable racking (r .fixed .filled) (r .fixed .few) (r .fixed .small) (r .turn .legal) in-turn now-awaited);
+      }
 
-      module _ {owes′ awaits′ : List ℕ} (q : Paid racking (pairsIn log′ (2 * t .moves) (2 * t′ .moves)) dues wants owes′ awaits′) {t″ : Tally} {log″ : List ℕ}
-          (et : t″ ≡ plusPhase t′) (el : log″ ≡ set log′ (8192 + t .phases) (t′ .moves)) where
-        -- one phase more is done
-        pub round-next : Round racks b h₀ (done ++ ms ∷ []) t″ h′ racking line′ bits′ log″ owes′ awaits′
+      module _ {t″ : Tally} {log″ owes′ awaits′ : List ℕ} (q : RoundClosed t t′ racking log′ dues wants t″ log″ owes′ awaits′) where
+        -- closed, one phase more is done
+        pub round-next : Round racks ends b h₀ (done ++ ms ∷ []) t″ h′ racking line′ bits′ log″ owes′ awaits′
         round-next =
-            let moves-end : t″ .moves ≡ t′ .moves = ap (λ (x : Tally). x .moves) et in
-            let long : length log″ ≡ length log′ = ap length el ∙ length-set log′ (8192 + t .phases) (t′ .moves) in
+            let moves-end : t″ .moves ≡ t′ .moves = ap (λ (x : Tally). x .moves) (q .counted) in
+            let long : length log″ ≡ length log′ = ap length (q .end-noted) ∙ length-set log′ (8192 + t .phases) (t′ .moves) in
             let now : h′ .places ≡ carriedPlaces ms (h .places) = ap (λ (x : Held). x .places) held-now in
             let turned : InTurn racks (h₀ .places) (join done ++ ms) = in-turn-append (r .in-turn) (subst (λ (x : List ℕ). InTurn racks x ms) places-are in-turn) in
-            let owed₁ : Owed racks (h′ .places) owes′ = rw (now, q .owes-are, round-pairs) (owed-paid racking (r .fixed .filled) (r .fixed .few) (r .fixed .small) (r .turn .legal) in-turn (r .owed)) in
-            let owed₂ : Owed racks (h′ .places) awaits′ = rw (now, q .awaits-are, round-pairs) (owed-paid racking (r .fixed .filled) (r .fixed .few) (r .fixed .small) (r .turn .legal) in-turn now-awaited) in
+            let owed₁ : Owed racks (h′ .places) owes′ = rw (now, q .moves-paid .owes-are, round-pairs) (owed-paid racking (r .fixed .filled) (r .fixed .few) (r .fixed .small) (r .turn .legal) in-turn (r .owed)) in
+            let owed₂ : Owed racks (h′ .places) awaits′ = rw (now, q .moves-paid .awaits-are, round-pairs) (owed-paid racking (r .fixed .filled) (r .fixed .few) (r .fixed .small) (r .turn .legal) in-turn now-awaited) in
             let all : h′ ≡ carried b (join done ++ ms) h₀ = held-now ∙ ap (carried b ms) (r .held-is) ∙ sym (carried-append b (join done) ms h₀) in
             record {
               fixed = r .fixed;
@@ -242,12 +248,11 @@ module _ {racks : List Rack} {b : ℕ} {h₀ : Held} {done : List (List Pair)} {
               phases-are = r .phases-are ∙ rw (now, phases-step (first-fit (r .fixed .spared)) (r .turn .legal) e, append-assoc);
               held-is = rw (join-last done ms) all;
               in-turn = rw (join-last done ms) turned;
-              phases-count = omega (arith, ap (λ (x : Tally). x .phases) et, phases-same, r .phases-count, length-append done (ms ∷ []));
+              phases-count = omega (arith, ap (λ (x : Tally). x .phases) (q .counted), phases-same, r .phases-count, length-append done (ms ∷ []));
               moves-count = rw (join-last done ms) (omega (arith, moves-end, moves-now, r .moves-count, length-append (join done) ms));
-              copies-none = ap (λ (x : Tally). x .copies) et ∙ ap (λ (x : Tally). x .copies) (p .done .tally-is) ∙ r .copies-none;
-              logged = logged-more ms (r .logged) (omega (arith, round-few, moves-now, r .moves-count)) (r .log-long) (omega (arith, round-phases, r .phases-count))
-                  (el ∙ rw (list-is, ← r .moves-count, ← r .phases-count, moves-now));
-              log-long = omega (arith, long, log-same, r .log-long);
+              copies-none = ap (λ (x : Tally). x .copies) (q .counted) ∙ ap (λ (x : Tally). x .copies) (p .done .tally-is) ∙ r .copies-none;
+              logged = logged-more ms (r .logged) (omega (arith, round-few, moves-now, r .moves-count)) (r .turn .room) (omega (arith, round-phases, r .phases-count))
+                  (q .end-noted ∙ rw (list-is, ← r .moves-count, ← r .phases-count, moves-now));
               owed = owed₁;
               awaited = rw (join-last done ms) (awaited-is (r .legal₀) turned (rw (ap (λ (x : Held). x .places) all) at owed₂));
             }
@@ -265,7 +270,7 @@ module _ {racks : List Rack} {b : ℕ} {h₀ : Held} {done : List (List Pair)} {
 
 -- a run begins
 pub round-first : {job : Job} {b : ℕ} {h : Held} {racking line bits log owes awaits : List ℕ} → Set job b h racking line bits log owes awaits
-    → Round (racksOf job) b h [] noCounts h racking line bits log owes awaits
+    → Round (racksOf job) (job .ends) b h [] noCounts h racking line bits log owes awaits
 unfolding join flat carriedPlaces carriedCards
 round-first {job} {b} {h} {racking} {line} {bits} {log} {owes} {awaits} s = record {
   fixed = going-fixed (s .going);
@@ -277,8 +282,7 @@ round-first {job} {b} {h} {racking} {line} {bits} {log} {owes} {awaits} s = reco
   phases-count = refl;
   moves-count = refl;
   copies-none = refl;
-  logged = record { pairs = refl; ends = λ j l. absurd (omega arith) };
-  log-long = s .log-long;
+  logged = record { pairs = refl; ends = λ room j l. absurd (omega arith) };
   owed = s .owed;
   awaited = rw (s .agree) (awaited-is (s .going .opened .legal) stop (s .owed));
 }

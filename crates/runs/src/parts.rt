@@ -2,16 +2,17 @@
 ghost use mathlib.Core.Path.{_≡_};
 ghost use Prim.Native.Nat.{_*_, _≤_};
 ghost use lib.ListN.{length};
-ghost use Rattle.racks.specs.Limits.{BYTES};
+ghost use Rattle.racks.specs.Limits.{BYTES, PAIRS};
 ghost use Rattle.racks.specs.Racks.{slots};
 ghost use Rattle.racks.specs.parts.Legal.{Spared};
 ghost use Rattle.racks.specs.Job.{racksOf, FitSpared};
 ghost use Rattle.tables.specs.parts.Tables.{Open};
 ghost use Rattle.moves.specs.Moves.{held, outcomeOf};
-ghost use Rattle.runs.specs.parts.Gathered.{LOG, PhasesMade, Ran};
+ghost use Rattle.runs.specs.parts.Gathered.{PhasesMade, Ran};
 ghost use Rattle.runs.specs.parts.Ran.{ranBy};
 use answers::Answer;
 use answers::Tally;
+use factors::parts::walks;
 use queues::parts::arrivals;
 use queues::parts::line;
 use racks::Job;
@@ -28,7 +29,7 @@ pub fn make_phases(
     racking: &[u8; Job::MAX_SLOTS],
     log: &mut [u16],
 ) -> Tally
-    requires { ⌜ Open job (now places) (now racking) × Spared (racksOf job) × (length (now cards) ≡ slots (racksOf job) * b) × (LOG ≤ length (now log)) ⌝ }
+    requires { ⌜ Open job (now places) (now racking) × Spared (racksOf job) × (length (now cards) ≡ slots (racksOf job) * b) × (PAIRS ≤ length (now log)) ⌝ }
     ensures { λ r. ⌜ PhasesMade (racksOf job) b (held (now (places .entry)) (now (cards .entry))) (held (now (places .exit)) (now (cards .exit))) r (now (log .exit)) ⌝ }
 {
     let mut line = [0u16; line::LINE];
@@ -51,20 +52,21 @@ pub fn make_phases(
     )
 }
 
-// Phases until nothing is away, then the shuffle; gives the three counts.
+// Phases until nothing is away, then the shuffle in the racking and the log, which are done with; gives the three counts.
 pub fn run_cards(
     job: Job,
     b: usize,
     places: &mut [u16],
     cards: &mut [u8],
-    racking: &[u8; Job::MAX_SLOTS],
+    racking: &mut [u8; Job::MAX_SLOTS],
 ) -> Tally
     requires { ⌜ Open job (now places) (now racking) × Spared (racksOf job) × (length (now cards) ≡ slots (racksOf job) * b) × (b ≤ BYTES) ⌝ }
     ensures { λ r. ⌜ Ran (racksOf job) b (held (now (places .entry)) (now (cards .entry))) (held (now (places .exit)) (now (cards .exit))) r ⌝ }
 {
-    let mut log = [0u16; rounds::LOG];
+    let mut log = [0u16; Job::PAIRS];
     let made = make_phases(job, b, places, cards, racking, &mut log);
-    shuffle::parts::settle(b, places, cards, made)
+    walks::clear_sources(&mut log, places.len());
+    shuffle::parts::settle(b, places, cards, racking, &mut log, made)
 }
 
 // The whole run, by the job.
@@ -77,6 +79,6 @@ pub fn run_job(job: Job, b: usize, places: &mut [u16], cards: &mut [u8]) -> Answ
     if number != 0 {
         return Answer::of(number);
     }
-    let tally = run_cards(job, b, places, cards, &racking);
+    let tally = run_cards(job, b, places, cards, &mut racking);
     Answer::done(tally)
 }

@@ -9,7 +9,7 @@ use Rattle.racks.specs.Numbers.{cardChecks}
 use Rattle.racks.specs.Job.{racksOf, jobOf, Sound}
 use Rattle.racks.specs.declared.Job.{Job}
 use Rattle.racks.proofs.Jobs.{of-racks, of-fit}
-use Rattle.tables.specs.parts.Tables.{Filled, OpenCards}
+use Rattle.tables.specs.parts.Tables.{Racked, OpenCards}
 use Rattle.tables.proofs.Tables.{of-cards, cards-racks, cards-open}
 
 module _ (caps : List ℕ) (job : Job) (is : job ≡ jobOf (ofCaps caps)) (b : ℕ) (places cards : List ℕ) (z : first (cardChecks (ofCaps caps) b places cards) ≡ 0) where
@@ -29,5 +29,5 @@ module _ (caps : List ℕ) (job : Job) (is : job ≡ jobOf (ofCaps caps)) (b : �
   job-racks = of-racks caps job is none
 
   -- it is accepted
-  pub job-open : (racking : List ℕ) → Filled (racksOf job) racking → OpenCards job b places cards racking
+  pub job-open : (racking : List ℕ) → Racked (racksOf job) racking → OpenCards job b places cards racking
   job-open racking f = cards-open job b places cards (λ r. of-fit caps job is r .0) racking f (of-cards caps job is b places cards ∙ z)

@@ -17,13 +17,13 @@ use Rattle.runtexts.specs.parts.Logs.{madeBefore, phaseIn, phasesIn, Rea
 use Rattle.texts.proofs.Writing.{Left, room-first, left-first, left-room, left-next, left-done}
 use Rattle.texts.proofs.Lines.{phase-lines}
 
--- a log of the phases that were made
-module _ {done : List (List Pair)} {log : List ℕ} (l : Logged done log) where
+-- a log of the phases that were made, with room for their ends
+module _ {done : List (List Pair)} {log : List ℕ} (l : Logged done log) (full : LOG ≤ length log) where
   -- the moves before phase j
   before-is : (j : ℕ) → j ≤ length done → madeBefore log j ≡ length (join (take j done))
   unfolding madeBefore join
   before-is zero h = refl
-  before-is (suc j) h = l .ends j (omega arith) ∙ ap (λ (n : ℕ). length (join (take n done))) (add-one j)
+  before-is (suc j) h = l .ends full j (omega arith) ∙ ap (λ (n : ℕ). length (join (take n done))) (add-one j)
 
   module _ (j : ℕ) (h : j < length done) where
     -- phase j stands between those before it and those after it
@@ -56,11 +56,11 @@ module _ {done : List (List Pair)} {log : List ℕ} (l : Logged done log) where
   unfolding phasesIn
   logged-phases n e = sym (tabulate-is n (phaseIn log) done [] (sym e) (λ j h. phase-is j (omega arith)))
 
-  pub logged-readable : (n : ℕ) → n ≡ length done → n ≤ 4096 → length (join done) ≤ 4096 → LOG ≤ length log → Readable n log
-  logged-readable n e few all long =
+  pub logged-readable : (n : ℕ) → n ≡ length done → n ≤ 4096 → length (join done) ≤ 4096 → Readable n log
+  logged-readable n e few all =
       record {
         few = few;
-        long = long;
+        long = full;
         rising = λ j h. omega (arith, step-is j (omega arith));
         within = λ j h. omega (arith, within-is j (omega arith));
       }

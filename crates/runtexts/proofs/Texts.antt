@@ -93,19 +93,19 @@ module _ {racks : List Rack} {b : ℕ} {h : Held} {out : List ℕ} (r : Runs rac
     unfolding phaseCounts
     count-is = ap (λ (x : Tally). x .phases) (p .tally-is) ∙ all-counted (phases-pairs (first-fit (r .spared)) (r .legal))
 
-    -- and can be read from the log
+    -- and can be read from a log with room for their ends
     pub put-readable : LOG ≤ length log → Readable (t .phases) log
-    put-readable l =
+    put-readable full =
         let fit = first-fit (r .spared) in
         let m = phases-moves fit (r .legal) in
         let a = aways-few racks (h .places) in
-        logged-readable (p .logged) (t .phases) count-is (omega (arith, count-is, all-few (phases-pairs fit (r .legal)), m, a, r .small)) (omega (arith, m, a, r .small)) l
+        logged-readable (p .logged) full (t .phases) count-is (omega (arith, count-is, all-few (phases-pairs fit (r .legal)), m, a, r .small)) (omega (arith, m, a, r .small))
 
-    read-is : phaseLines 1 (phasesIn (t .phases) log) ≡ phases-part
-    read-is = ap (phaseLines 1) (logged-phases (p .logged) (t .phases) count-is)
+    read-is : LOG ≤ length log → phaseLines 1 (phasesIn (t .phases) log) ≡ phases-part
+    read-is full = ap (phaseLines 1) (logged-phases (p .logged) full (t .phases) count-is)
 
-    pub read-room : Room (phaseLines 1 (phasesIn (t .phases) log)) 0 out
-    read-room = rw read-is phases-room
+    pub read-room : LOG ≤ length log → Room (phaseLines 1 (phasesIn (t .phases) log)) 0 out
+    read-room full = rw (read-is full) phases-room
 
     -- what they leave can be shuffled
     pub put-chained : Chained (h₁ .places)
@@ -125,9 +125,9 @@ module _ {racks : List Rack} {b : ℕ} {h : Held} {out : List ℕ} (r : Runs rac
     copies-are : copiesLine (copyList (h₁ .places)) ≡ copies-part
     copies-are = ap (λ (x : Held). copiesLine (copyList (x .places))) (p .held-is)
 
-    module _ {out₁ : List ℕ} {p₁ : ℕ} (w₁ : Wrote (phaseLines 1 (phasesIn (t .phases) log)) out 0 out₁ p₁) where
+    module _ (full : LOG ≤ length log) {out₁ : List ℕ} {p₁ : ℕ} (w₁ : Wrote (phaseLines 1 (phasesIn (t .phases) log)) out 0 out₁ p₁) where
       one-wrote : Wrote phases-part out 0 out₁ p₁
-      one-wrote = rw read-is at w₁
+      one-wrote = rw (read-is full) at w₁
 
       -- the copies
       pub copies-room : Room (copiesLine (copyList (h₁ .places))) p₁ out₁

@@ -17,7 +17,7 @@ use Rattle.racks.specs.Table.{dest}
 use Rattle.moves.specs.Blocks.{block, putBlock, blank}
 use Rattle.moves.proofs.Blocks.{length-put, length-blank, length-block, block-same, block-other}
 use Rattle.factors.specs.Copies.{next, copyList}
-use Rattle.shuffle.specs.Shuffle.{Hands, taken, laid, runCopies, brought}
+use Rattle.shuffle.specs.Shuffle.{Hands, taken, laid, runCopies, brought, copyMade}
 use Rattle.factors.specs.parts.Chains.{Chained}
 use Rattle.factors.proofs.Chains.{next-is}
 use Rattle.factors.proofs.Runs.{put, run}
@@ -83,7 +83,7 @@ module _ (b n : ℕ) (few : n ≤ 4096) where
 
   -- and so is a list of copies
   pub viewed : (cs : List Pair) (h : Hands) → Sized b n h → All (ProperCopy n) cs → (z : ℕ) → taken b z (runCopies b cs h) ≡ run cs (λ x. taken b x h) z
-  unfolding runCopies run
+  unfolding copyMade runCopies run
   viewed [] h s p z = refl
   viewed (c ∷ cs) h s (more p ps) z =
       viewed cs (laid b (c .1) (taken b (c .0) h) h) (sized-on c h s p) ps z
@@ -91,7 +91,7 @@ module _ (b n : ℕ) (few : n ≤ 4096) where
 
   -- copies keep the buffer and the hand as long as they are
   pub run-sized : (cs : List Pair) (h : Hands) → Sized b n h → All (ProperCopy n) cs → Sized b n (runCopies b cs h)
-  unfolding runCopies
+  unfolding copyMade runCopies
   run-sized [] h s p = s
   run-sized (c ∷ cs) h s (more p ps) = run-sized cs (laid b (c .1) (taken b (c .0) h) h) (sized-on c h s p) ps
 

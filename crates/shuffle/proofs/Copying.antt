@@ -14,13 +14,13 @@ use Rattle.moves.specs.Blocks.{block, putBlock, blank}
 use Rattle.moves.proofs.Blocks.{length-put, within}
 use Rattle.factors.specs.Copies.{next, shift, copies, copyList}
 use Rattle.factors.specs.parts.Chains.{Chained}
-use Rattle.factors.specs.parts.Walks.{steps, Inside, walkCount, Walked}
-use Rattle.copies.specs.parts.Writes.{Unmarked, due}
+use Rattle.factors.specs.parts.Walks.{COUNTED, steps, Inside, walkCount, Unmarked, Walked}
+use Rattle.copies.specs.parts.Writes.{due}
 use Rattle.copies.proofs.Tallied.{plus-none, plus-both}
 use Rattle.factors.proofs.Walked.{inside-here, inside-step, walked-shift, walked-hand, count-shift, count-hand}
 use Rattle.copies.proofs.Progress.{Progress, progress-start, progress-end, progress-room, progress-more, few-copies, marked-none, counted-none, counted-due, due-copies}
-use Rattle.shuffle.specs.Shuffle.{Hands, taken, laid, runCopies, brought}
-use Rattle.shuffle.specs.parts.Hands.{handed, copyMade, slid, HandedAs, WalkBrought, SlotBrought, AllBrought}
+use Rattle.shuffle.specs.Shuffle.{Hands, taken, laid, runCopies, brought, copyMade}
+use Rattle.shuffle.specs.parts.Hands.{handed, slid, HandedAs, WalkBrought, SlotBrought, AllBrought}
 use Rattle.shuffle.proofs.Bytes.{taken-hand, taken-slot, laid-hand, laid-slot}
 
 -- one copy
@@ -48,7 +48,7 @@ run-snoc b (x ∷ cs) c h = run-snoc b cs c (laid b (x .1) (taken b (x .0) h) h)
 
 -- copies and then others
 pub run-append : (b : ℕ) (cs ds : List Pair) (h : Hands) → runCopies b (cs ++ ds) h ≡ runCopies b ds (runCopies b cs h)
-unfolding runCopies
+unfolding copyMade runCopies
 run-append b [] ds h = refl
 run-append b (x ∷ cs) ds h = run-append b cs ds (laid b (x .1) (taken b (x .0) h) h)
 
@@ -89,7 +89,7 @@ slid-more b (suc n) x y places cards l m h e q p r =
 -- a chain of slots is run without the hand
 pub run-chain : (b : ℕ) (places cards hand : List ℕ) (n x : ℕ) → Inside places n x → length places ≤ 4096
     → runCopies b (shift x (steps (next places) n x)) (handed b cards hand) ≡ handed b (slid b (shift x (steps (next places) n x)) cards) hand
-unfolding shift steps runCopies slid Inside
+unfolding shift steps copyMade runCopies slid Inside
 run-chain b places cards hand zero x w l = refl
 run-chain b places cards hand (suc n) x w l =
     let y : ℕ = next places x in
@@ -132,37 +132,37 @@ module _ (b : ℕ) (places : List ℕ) (h n end : ℕ) (inside : Inside places n
       }
 
 -- slot k is marked: nothing is due
-pub slot-none : (b : ℕ) (places : List ℕ) (k : ℕ) (seen cards hand : List ℕ) → getD seen k 0 ≡ 1 → length hand ≡ 256 → SlotBrought b places k seen cards hand 0 seen cards hand
-unfolding runCopies
+pub slot-none : (b : ℕ) (places : List ℕ) (k : ℕ) (seen cards hand : List ℕ) → getD seen k 0 ≡ COUNTED → length hand ≡ 256 → SlotBrought b places k seen cards hand 0 seen cards hand
+unfolding copyMade runCopies
 slot-none b places k seen cards hand e l = record {
-  counted = counted-none places seen 1 k 0 e;
-  brings = record { is = ap (λ (cs : List Pair). runCopies b cs (handed b cards hand)) (sym (marked-none places seen 1 k e)); long = l };
+  counted = counted-none places seen COUNTED k 0 e;
+  brings = record { is = ap (λ (cs : List Pair). runCopies b cs (handed b cards hand)) (sym (marked-none places seen COUNTED k e)); long = l };
   size = refl;
 }
 
 -- it is not: its factor is brought
-pub slot-brought : (b : ℕ) (places : List ℕ) (k : ℕ) (seen cards hand : List ℕ) → getD seen k 0 ≢ 1 → (h n end : ℕ) (marks : List ℕ) → Walked places 1 k seen h n end marks
+pub slot-brought : (b : ℕ) (places : List ℕ) (k : ℕ) (seen cards hand : List ℕ) → getD seen k 0 ≢ COUNTED → (h n end : ℕ) (marks : List ℕ) → Walked places COUNTED k seen h n end marks
     → (r : ℕ) (cards′ hand′ : List ℕ) → WalkBrought b places h n end cards hand r cards′ hand′ → SlotBrought b places k seen cards hand r marks cards′ hand′
 slot-brought b places k seen cards hand q h n end marks w r cards′ hand′ v = record {
-  counted = counted-due places seen 1 k q h n end marks w 0 r (v .count-is ∙ sym (zero-add (walkCount n end)));
-  brings = record { is = v .brings .is ∙ ap (λ (cs : List Pair). runCopies b cs (handed b cards hand)) (sym (due-copies places seen 1 k q h n end marks w)); long = v .brings .long };
+  counted = counted-due places seen COUNTED k q h n end marks w 0 r (v .count-is ∙ sym (zero-add (walkCount n end)));
+  brings = record { is = v .brings .is ∙ ap (λ (cs : List Pair). runCopies b cs (handed b cards hand)) (sym (due-copies places seen COUNTED k q h n end marks w)); long = v .brings .long };
   size = v .size;
 }
 
 -- the factors of the slots before k are brought
 pub record Bringing (b : ℕ) (places : List ℕ) (k : ℕ) (start seen cards₀ hand₀ cards hand : List ℕ) (tally sum : Tally) : Type 0 where
   pub made : List Pair
-  pub progress : Progress places 1 k start seen made
+  pub progress : Progress places COUNTED k start seen made
   pub count-is : sum ≡ plusCopies (length made) tally
   pub brings : HandedAs b cards hand (runCopies b made (handed b cards₀ hand₀))
   pub size : length cards ≡ length cards₀
 
 -- none is
 pub bringing-start : (b : ℕ) (places start cards hand : List ℕ) (tally : Tally) → length hand ≡ 256 → Bringing b places 0 start start cards hand cards hand tally tally
-unfolding runCopies
+unfolding copyMade runCopies
 bringing-start b places start cards hand tally l = record {
   made = [];
-  progress = progress-start places start 1;
+  progress = progress-start places start COUNTED;
   count-is = plus-none tally;
   brings = record { is = refl; long = l };
   size = refl;
@@ -173,35 +173,35 @@ module _ (b : ℕ) (places : List ℕ) (k : ℕ) (start seen cards₀ hand₀ ca
   pub bringing-end : k ≡ length places → AllBrought b places cards₀ hand₀ tally sum cards
   unfolding handed
   bringing-end e =
-      let all = progress-end places 1 k start seen (p .made) (p .progress) e in
+      let all = progress-end places COUNTED k start seen (p .made) (p .progress) e in
       record {
         count-is = p .count-is ∙ ap (λ (n : ℕ). plusCopies n tally) (ap length (sym all));
         brings = ap (λ (h : Hands). h .cards) (p .brings .is) ∙ ap (λ (cs : List Pair). runCopies b cs (handed b cards₀ hand₀) .cards) (sym all);
         size = p .size;
       }
 
-  module _ (ok : Chained places) (fresh : Unmarked 1 start) (low : k < length places) where
-    room : length (p .made) + length (copies places (due places 1 seen k)) ≤ 6144
-    room = omega (arith, progress-room places 1 k start seen (p .made) (p .progress) fresh low, few-copies ok)
+  module _ (ok : Chained places) (fresh : Unmarked places COUNTED start) (low : k < length places) where
+    room : length (p .made) + length (copies places (due places COUNTED seen k)) ≤ 6144
+    room = omega (arith, progress-room places COUNTED k start seen (p .made) (p .progress) fresh low, few-copies ok)
 
     -- the copies of slot k are few
-    pub bringing-few : length (copies places (due places 1 seen k)) ≤ 6144
+    pub bringing-few : length (copies places (due places COUNTED seen k)) ≤ 6144
     bringing-few = omega (arith, room)
 
     -- the tally has room for them
-    pub bringing-room : tally .copies ≡ 0 → (n : ℕ) → n ≡ 0 + length (copies places (due places 1 seen k)) → sum .copies + n < 18446744073709551616
+    pub bringing-room : tally .copies ≡ 0 → (n : ℕ) → n ≡ 0 + length (copies places (due places COUNTED seen k)) → sum .copies + n < 18446744073709551616
     bringing-room z n e = omega (arith, room, ap (λ (t : Tally). t .copies) (p .count-is))
 
     -- those of slot k too
     pub bringing-more : (n : ℕ) (seen₂ cards₂ hand₂ : List ℕ) (sum₂ : Tally) → SlotBrought b places k seen cards hand n seen₂ cards₂ hand₂ → sum₂ ≡ plusCopies n sum
         → Bringing b places (k + 1) start seen₂ cards₀ hand₀ cards₂ hand₂ tally sum₂
     bringing-more n seen₂ cards₂ hand₂ sum₂ v e = record {
-      made = p .made ++ copies places (due places 1 seen k);
-      progress = progress-more places 1 k start seen (p .made) (p .progress) fresh low seen₂ (v .counted .marked);
-      count-is = plus-both tally sum sum₂ (length (p .made)) n (length (p .made ++ copies places (due places 1 seen k))) (p .count-is) e
-          (omega (arith, v .counted .count-is, length-append (p .made) (copies places (due places 1 seen k))));
+      made = p .made ++ copies places (due places COUNTED seen k);
+      progress = progress-more places COUNTED k start seen (p .made) (p .progress) fresh low seen₂ (v .counted .marked);
+      count-is = plus-both tally sum sum₂ (length (p .made)) n (length (p .made ++ copies places (due places COUNTED seen k))) (p .count-is) e
+          (omega (arith, v .counted .count-is, length-append (p .made) (copies places (due places COUNTED seen k))));
       brings = record {
-        is = v .brings .is ∙ ap (runCopies b (copies places (due places 1 seen k))) (p .brings .is) ∙ sym (run-append b (p .made) (copies places (due places 1 seen k)) (handed b cards₀ hand₀));
+        is = v .brings .is ∙ ap (runCopies b (copies places (due places COUNTED seen k))) (p .brings .is) ∙ sym (run-append b (p .made) (copies places (due places COUNTED seen k)) (handed b cards₀ hand₀));
         long = v .brings .long;
       };
       size = v .size ∙ p .size;

@@ -3,7 +3,7 @@ use mathlib.Core.Path.{_≡_, refl, sym, ap, _∙_}
 use mathlib.Core.Logic.{_≢_}
 use mathlib.Core.Bool.{true, false}
 use mathlib.Core.List.{List}
-use Prim.Native.Nat.{ℕ, _+_, _*_, _<_}
+use Prim.Native.Nat.{ℕ, _+_, _*_, _≤_, _<_}
 use native.Mathlib.Omega.{arith}
 use native.Mathlib.Decide.{ℕ-discrete}
 use lib.ListN.{length, getD, length-set}
@@ -19,6 +19,7 @@ use Rattle.moves.specs.Blocks.{block, putBlock, blank}
 use Rattle.moves.proofs.Blocks.{length-put, length-blank, block-same, block-other, blocks-ext}
 use Rattle.factors.specs.Copies.{source}
 use Rattle.factors.specs.parts.Chains.{Chained}
+use Rattle.factors.specs.parts.Walks.{Sources}
 use Rattle.factors.proofs.Chains.{seek-hit, seek-found}
 use Rattle.shuffle.specs.Shuffle.{isNamed, lastEntry, lastCard}
 use Rattle.shuffle.specs.parts.Hands.{entryBy, SlotSettled, FreeListed, TableSettled, AllBelow, Zeroed, AllSettled}
@@ -48,21 +49,27 @@ pub entry-named : (s d : ℕ) → s ≢ FREE → d ≡ entryBy s d
 unfolding entryBy
 entry-named s d q = rw (ne-eqb s FREE q)
 
--- the first d slots are settled, and those of them that are free listed
+-- the first d slots are settled, and those of them that are free listed from the front of the list that has the sources of the others
 pub record SettledTo (places : List ℕ) (d : ℕ) (places′ frees : List ℕ) (n : ℕ) : Type 0 where
   pub entries : (g : ℕ) → g < d → getD places′ g 0 ≡ lastEntry places g
   pub listed : FreeListed places d frees n
+  pub rest : (g : ℕ) → d ≤ g → g < length places → getD frees g 0 ≡ source places g
   pub size : length places′ ≡ length places
 
 -- none is
-pub settled-none : (places frees : List ℕ) → length frees ≡ 4096 → SettledTo places 0 places frees 0
-settled-none places frees l = record {
+pub settled-none : (places noted : List ℕ) → Sources places noted → SettledTo places 0 places noted 0
+settled-none places noted s = record {
   entries = λ g l. absurd (omega arith);
-  listed = record { hits = λ i l. absurd (omega arith); all = λ g l. absurd (omega arith); few = omega arith; long = l };
+  listed = record { hits = λ i l. absurd (omega arith); all = λ g l. absurd (omega arith); few = omega arith; long = s .long };
+  rest = λ g l. s .sources g;
   size = refl;
 }
 
-module _ {places : List ℕ} (ok : Chained places) (d : ℕ) (low : d < length places) (n : ℕ) (places₁ frees₁ : List ℕ) (t : SettledTo places d places₁ frees₁ n) (s : ℕ) (from : s ≡ source places d) (count : ℕ) (places₂ frees₂ : List ℕ) (w : SlotSettled s d n places₁ frees₁ count places₂ frees₂) where
+module _ {places : List ℕ} (ok : Chained places) (d : ℕ) (low : d < length places) (n : ℕ) (places₁ frees₁ : List ℕ) (t : SettledTo places d places₁ frees₁ n) (s : ℕ) (read : s ≡ getD frees₁ d 0) (count : ℕ) (places₂ frees₂ : List ℕ) (w : SlotSettled s d n places₁ frees₁ count places₂ frees₂) where
+  -- the source is read before its place is written
+  from : s ≡ source places d
+  from = read ∙ t .rest d (omega arith) low
+
   room : n < length frees₁
   room = omega (arith, t .listed .few, t .listed .long, ok .small)
 
@@ -78,8 +85,11 @@ module _ {places : List ℕ} (ok : Chained places) (d : ℕ) (low : d < length p
   here : getD frees₂ n 0 ≡ d
   here = ap (λ (f : List ℕ). getD f n 0) (w .slot) ∙ getD-set-same frees₁ n d 0 room
 
-  long₂ : length frees₂ ≡ 4096
-  long₂ = ap length (w .slot) ∙ length-set frees₁ n d ∙ t .listed .long
+  beyond : (g : ℕ) → d + 1 ≤ g → g < length places → getD frees₂ g 0 ≡ source places g
+  beyond g l h = ap (λ (f : List ℕ). getD f g 0) (w .slot) ∙ getD-set-other frees₁ n g d 0 (λ e. omega (arith, t .listed .few)) ∙ t .rest g (omega arith) h
+
+  long₂ : 4097 ≤ length frees₂
+  long₂ = omega (arith, ap length (w .slot) ∙ length-set frees₁ n d, t .listed .long)
 
   listed-free : s ≡ FREE → FreeListed places (d + 1) frees₂ count
   listed-free e =
@@ -118,6 +128,7 @@ module _ {places : List ℕ} (ok : Chained places) (d : ℕ) (low : d < length p
       | no j ↦ rw (w .entry) (getD-set-other places₁ d g (entryBy s d) 0 j ∙ t .entries g (omega arith))
     ];
     listed = elim (ℕ-discrete s FREE) [ yes e ↦ listed-free e | no q ↦ listed-named q ];
+    rest = beyond;
     size = ap length (w .entry) ∙ length-set places₁ d (entryBy s d) ∙ t .size;
   }
 

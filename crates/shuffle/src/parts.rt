@@ -2,12 +2,11 @@
 ghost use mathlib.Core.Path.{_≡_};
 ghost use Prim.Native.Nat.{_+_, _*_, _≤_, _<_};
 ghost use lib.ListN.{length};
-ghost use Rattle.racks.specs.Limits.{BYTES, SLOTS};
+ghost use Rattle.racks.specs.Limits.{BYTES, SLOTS, SOURCES};
 ghost use Rattle.racks.specs.Job.{Fit};
 ghost use Rattle.moves.specs.Moves.{held, outcomeOf};
 ghost use Rattle.factors.specs.parts.Chains.{Chained};
-ghost use Rattle.factors.specs.parts.Walks.{Sources};
-ghost use Rattle.copies.specs.parts.Writes.{Unmarked};
+ghost use Rattle.factors.specs.parts.Walks.{COUNTED, NoSources, Sources, Unmarked};
 ghost use Rattle.shuffle.specs.parts.Hands.{AllBrought, entryBy, SlotSettled, TableSettled, AllBelow, Zeroed, AllSettled, Shuffled};
 ghost use Rattle.shuffle.specs.parts.Shuffled.{shuffledBy};
 use answers::Answer;
@@ -19,14 +18,14 @@ pub mod hands;
 // Every factor brought home, by its lowest slot; the tally with the copies made.
 pub fn bring_factors(
     places: &[u16],
-    sources: &[u16; Job::SOURCES],
+    sources: &[u16],
     seen: &mut [u8; Job::MAX_SLOTS],
     cards: &mut [u8],
     hand: &mut [u8; Job::MAX_BYTES],
     b: usize,
     tally: Tally,
 ) -> Tally
-    requires { ⌜ Chained (now places) × Sources (now places) (now sources) × Unmarked 1 (now seen) × (b ≤ BYTES) × (length (now cards) ≡ length (now places) * b) × (length (now hand) ≡ BYTES) × (tally .copies ≡ 0) ⌝ }
+    requires { ⌜ Chained (now places) × Sources (now places) (now sources) × Unmarked (now places) COUNTED (now seen) × (b ≤ BYTES) × (length (now cards) ≡ length (now places) * b) × (length (now hand) ≡ BYTES) × (tally .copies ≡ 0) ⌝ }
     ensures { λ r. ⌜ AllBrought b (now (places .entry)) (now (cards .entry)) (now (hand .entry)) tally r (now (cards .exit)) ⌝ }
 {
     let mut sum = tally;
@@ -52,14 +51,8 @@ pub fn entry_by(source: u16, d: usize) -> u16
 
 // Slot d at the end: its entry, and its number behind the n free slots before it, where it is kept if it is free. So there is no branch, which
 // could not be foretold where free and taken slots alternate at random.
-pub fn settle_slot(
-    places: &mut [u16],
-    frees: &mut [u16; Job::MAX_SLOTS],
-    d: usize,
-    n: usize,
-    source: u16,
-) -> usize
-    requires { ⌜ (d < length (now places)) × (d < SLOTS) × (n ≤ d) × (length (now frees) ≡ SLOTS) ⌝ }
+pub fn settle_slot(places: &mut [u16], frees: &mut [u16], d: usize, n: usize, source: u16) -> usize
+    requires { ⌜ (d < length (now places)) × (d < SLOTS) × (n ≤ d) × (SOURCES ≤ length (now frees)) ⌝ }
     ensures { λ r. ⌜ SlotSettled source d n (now (places .entry)) (now (frees .entry)) r (now (places .exit)) (now (frees .exit)) ⌝ }
 {
     places[d] = entry_by(source, d);
@@ -67,27 +60,25 @@ pub fn settle_slot(
     n + tables::parts::one_if(source == Job::FREE) as usize
 }
 
-// The new table, and the slots that are free in it from the front of `frees`; how many they are.
-pub fn settle_table(
-    sources: &[u16; Job::SOURCES],
-    places: &mut [u16],
-    frees: &mut [u16; Job::MAX_SLOTS],
-) -> usize
-    requires { ⌜ Chained (now places) × Sources (now places) (now sources) × (length (now frees) ≡ SLOTS) ⌝ }
-    ensures { λ r. ⌜ TableSettled (now (places .entry)) (now (places .exit)) (now (frees .exit)) r ⌝ }
+// The new table, and the slots that are free in it from the front of the sources; how many they are. No more slots are listed than sources were
+// read, so that each source is read before its place is written.
+pub fn settle_table(sources: &mut [u16], places: &mut [u16]) -> usize
+    requires { ⌜ Chained (now places) × Sources (now places) (now sources) ⌝ }
+    ensures { λ r. ⌜ TableSettled (now (places .entry)) (now (places .exit)) (now (sources .exit)) r ⌝ }
 {
     let mut n: usize = 0;
     let mut d: usize = 0;
     while d < places.len() {
-        n = settle_slot(places, frees, d, n, sources[d]);
+        let source = sources[d];
+        n = settle_slot(places, sources, d, n, source);
         d = d + 1;
     }
     n
 }
 
 // The slots that are listed, zeroed.
-pub fn zero_slots(frees: &[u16; Job::MAX_SLOTS], n: usize, cards: &mut [u8], b: usize, slots: usize)
-    requires { ⌜ AllBelow slots n (now frees) × (n ≤ SLOTS) × (length (now cards) ≡ slots * b) ⌝ }
+pub fn zero_slots(frees: &[u16], n: usize, cards: &mut [u8], b: usize, slots: usize)
+    requires { ⌜ AllBelow slots n (now frees) × (n ≤ length (now frees)) × (length (now cards) ≡ slots * b) ⌝ }
     ensures { λ _. ⌜ Zeroed b (now (frees .entry)) n (now (cards .entry)) (now (cards .exit)) ⌝ }
 {
     let mut i: usize = 0;
@@ -99,30 +90,34 @@ pub fn zero_slots(frees: &[u16; Job::MAX_SLOTS], n: usize, cards: &mut [u8], b: 
 }
 
 // The new table, and every free slot zeroed.
-pub fn settle_slots(sources: &[u16; Job::SOURCES], places: &mut [u16], cards: &mut [u8], b: usize)
+pub fn settle_slots(sources: &mut [u16], places: &mut [u16], cards: &mut [u8], b: usize)
     requires { ⌜ Chained (now places) × Sources (now places) (now sources) × (length (now cards) ≡ length (now places) * b) ⌝ }
     ensures { λ _. ⌜ AllSettled b (now (places .entry)) (now (cards .entry)) (now (places .exit)) (now (cards .exit)) ⌝ }
 {
-    let mut frees = [0u16; Job::MAX_SLOTS];
-    let n = settle_table(sources, places, &mut frees);
-    zero_slots(&frees, n, cards, b, places.len());
+    let n = settle_table(sources, places);
+    zero_slots(sources, n, cards, b, places.len());
 }
 
-// The shuffle of an accepted table with nothing away; the tally with the copies made.
-pub fn settle(b: usize, places: &mut [u16], cards: &mut [u8], tally: Tally) -> Tally
-    requires { ⌜ Chained (now places) × (b ≤ BYTES) × (length (now cards) ≡ length (now places) * b) × (tally .copies ≡ 0) ⌝ }
+// The shuffle of an accepted table with nothing away, with marks and a list for the sources lent; the tally with the copies made.
+pub fn settle(
+    b: usize,
+    places: &mut [u16],
+    cards: &mut [u8],
+    seen: &mut [u8; Job::MAX_SLOTS],
+    sources: &mut [u16],
+    tally: Tally,
+) -> Tally
+    requires { ⌜ Chained (now places) × Unmarked (now places) COUNTED (now seen) × NoSources (length (now places)) (now sources) × (b ≤ BYTES) × (length (now cards) ≡ length (now places) * b) × (tally .copies ≡ 0) ⌝ }
     ensures { λ r. ⌜ Shuffled b (now (places .entry)) (now (cards .entry)) tally r (now (places .exit)) (now (cards .exit)) ⌝ }
 {
-    let mut sources = [Job::FREE; Job::SOURCES];
-    factors::parts::walks::fill_sources(places, &mut sources);
-    let mut seen = [0u8; Job::MAX_SLOTS];
+    factors::parts::walks::fill_sources(places, sources);
     let mut hand = [0u8; Job::MAX_BYTES];
-    let counted = bring_factors(places, &sources, &mut seen, cards, &mut hand, b, tally);
-    settle_slots(&sources, places, cards, b);
+    let counted = bring_factors(places, sources, seen, cards, &mut hand, b, tally);
+    settle_slots(sources, places, cards, b);
     counted
 }
 
-// The shuffle, by the job.
+// The shuffle, by the job. Once nothing is away, the racking serves as marks.
 pub fn shuffle_job(job: Job, b: usize, places: &mut [u16], cards: &mut [u8]) -> Answer
     requires { ⌜ Fit job ⌝ }
     ensures { λ r. ⌜ outcomeOf r (now (places .exit)) (now (cards .exit)) ≡ shuffledBy job b (held (now (places .entry)) (now (cards .entry))) ⌝ }
@@ -135,7 +130,8 @@ pub fn shuffle_job(job: Job, b: usize, places: &mut [u16], cards: &mut [u8]) -> 
     if copies::parts::some_away(&racking, places) {
         return Answer::of(12);
     }
+    let mut sources = [Job::FREE; Job::SOURCES];
     let none = Tally::none();
-    let tally = settle(b, places, cards, none);
+    let tally = settle(b, places, cards, &mut racking, &mut sources, none);
     Answer::done(tally)
 }

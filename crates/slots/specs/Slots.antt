@@ -34,7 +34,7 @@ nothing = record { kind = kind.None; state = state.None }
 abbrev pub refusedSlot : ℕ → SlotAnswer
 refusedSlot n = record { answer = answer n noCounts; slot = nothing }
 
--- 1 to 7
+-- 1, 3 to 6, and 7
 unfoldable pub slotChecks : List Rack → List ℕ → ℕ → List Check
 slotChecks racks places g = tableChecks racks places ++ (noSlot racks g, 7) ∷ []
 

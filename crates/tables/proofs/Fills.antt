@@ -11,7 +11,7 @@ use borrow.Author.Tests.{lt-ltb, le-ltb}
 use Rattle.counting.specs.Tests.{bit}
 use Rattle.racks.specs.Racks.{Rack, base, slots, rackOf, spareOf, isUser}
 use Rattle.racks.proofs.Geometry.{rack-is, user-is, user-none, end-le, spare-is, spare-end}
-use Rattle.tables.specs.parts.Tables.{Between, Marked}
+use Rattle.tables.specs.parts.Tables.{Between, UsersMarked}
 
 pub between-none : (low value : ℕ) (t : List ℕ) → Between low low value t t
 between-none low value t = record { inside = λ g l h. absurd (omega arith); below = λ g h. refl; above = λ g h l. refl; long = refl }
@@ -85,7 +85,7 @@ module _ (racks : List Rack) where
             b .above g (omega (arith, spare-end racks p)) a ∙ f .behind g a h
 
   -- all racks are done
-  pub marked-all : (t : List ℕ) (n : ℕ) → n ≡ slots racks → length t ≡ 4096 → MarkedTo racks n t → Marked racks t
+  pub marked-all : (t : List ℕ) (n : ℕ) → n ≡ slots racks → length t ≡ 4096 → MarkedTo racks n t → UsersMarked racks t
   marked-all t n e long k =
       record {
         marks = λ g l. elim (decLt g n) [ yes h ↦ k .marks g h | no h ↦ k .behind g (omega arith) l ∙ sym (ap bit (user-none racks g (omega arith))) ];

@@ -22,7 +22,7 @@ use Rattle.racks.specs.Table.{dest, free, names}
 use Rattle.racks.specs.Numbers.{badEntry, badEntries, repeats, badTwice}
 use Rattle.racks.proofs.Geometry.{user-lt}
 use Rattle.racks.proofs.Legal.{entry-cases}
-use Rattle.tables.specs.parts.Tables.{Marked}
+use Rattle.tables.specs.parts.Tables.{UsersMarked}
 use Rattle.tables.specs.parts.Marks.{markOf, numberOf, entryNumber, named, Entered, entriesNumber, worse}
 
 -- one entry, by the tests that the code makes
@@ -62,7 +62,7 @@ pub record Passed (racks : List Rack) (places marks : List ℕ) (worst g : ℕ) 
   pub worst-is : worst ≡ pick (some g (repeats places)) 6 0
   pub long : length marks ≡ 4096
 
-pub passed-none : (racks : List Rack) (places marks : List ℕ) → Marked racks marks → Passed racks places marks 0 0
+pub passed-none : (racks : List Rack) (places marks : List ℕ) → UsersMarked racks marks → Passed racks places marks 0 0
 unfolding markOf
 passed-none racks places marks m =
     record {

@@ -13,13 +13,13 @@ use borrow.Author.Tests.{eq-eqb, ne-eqb, eqb-true, lt-ltb, le-ltb, ltb-false}
 use Rattle.counting.specs.Tests.{_or_, pick}
 use Rattle.counting.specs.Checks.{Check, first, refusal, done}
 use Rattle.counting.proofs.Tests.{or-l, or-r, or-none, or-false, or-off-l, or-off-r, not-off-is}
-use Rattle.counting.proofs.Checks.{Marked, first-here, first-later, first-off, first-join, first-refusal, refusal-here, refusal-past, refusal-none}
-use Rattle.counting.proofs.Checks.Marked.{more, none}
+use Rattle.counting.proofs.Checks.{Refusing, first-here, first-later, first-off, first-join, first-refusal, refusal-here, refusal-past, refusal-none}
+use Rattle.counting.proofs.Checks.Refusing.{more, none}
 use Rattle.answers.specs.Answers.{answer, noCounts, listed}
 use Rattle.answers.specs.declared.Tally.{Tally}
 use Rattle.racks.specs.Racks.{Rack, ofCaps, slots}
-use Rattle.racks.specs.Numbers.{badCount, badBytes, badSize, badPlaces, badCards, entryChecks, placesChecks, tableChecks, cardChecks}
-use Rattle.racks.specs.Job.{rackChecks, racksOf, jobOf, Sound, Fit}
+use Rattle.racks.specs.Numbers.{badCount, badBytes, badSize, badPlaces, badCards, entryChecks, placesChecks, tableChecks, cardChecks, rackChecks}
+use Rattle.racks.specs.Job.{racksOf, jobOf, Sound, Fit}
 use Rattle.racks.specs.declared.Job.{Job}
 use Rattle.racks.proofs.Jobs.{sound-refused, sound-slots, of-refused, of-racks}
 use Rattle.racks.proofs.Legal.{checks-racks, checks-places, checks-4, checks-entries}
@@ -27,7 +27,7 @@ use Rattle.racks.specs.parts.Legal.{Legal}
 use Rattle.racks.proofs.LegalTable.{places-legal}
 use Rattle.tables.specs.Check.{checked}
 use Rattle.tables.specs.parts.Marks.{entriesNumber}
-use Rattle.tables.specs.parts.Tables.{Filled, OpenCards, Checked, CardsChecked, tableNumber, cardsNumber, checkedBy}
+use Rattle.tables.specs.parts.Tables.{Racked, OpenCards, Checked, CardsChecked, tableNumber, cardsNumber, checkedBy}
 
 module _ (job : Job) (places : List ℕ) where
   -- past what the racks are refused with
@@ -56,13 +56,13 @@ module _ (job : Job) (places : List ℕ) where
     pub checked-refused : (n ≡ 0 → ⊥) → Checked job places n racking
     checked-refused f = record { number-is = is; opened = λ z. absurd (f z) }
 
-    pub checked-filled : Fit job → Filled (racksOf job) racking → Checked job places n racking
-    checked-filled fit filled =
+    pub checked-filled : Fit job → Racked (racksOf job) racking → Checked job places n racking
+    checked-filled fit racked =
         record {
           number-is = is;
           opened = λ z.
               let r = number-racks (sym is ∙ z) in
-              record { sound = fit r; legal = places-legal (racksOf job) places (sym (past r) ∙ sym is ∙ z); filled = filled };
+              record { sound = fit r; legal = places-legal (racksOf job) places (sym (past r) ∙ sym is ∙ z); filled = racked .filled; long = racked .long };
         }
 
 -- what is known where the table and its cards pass: a legal table, cards of S·B bytes, and B not too large
@@ -130,15 +130,15 @@ module _ (job : Job) (b : ℕ) (places cards : List ℕ) where
       refusal-none (job .refused) _ (c .1)
 
   -- and is accepted
-  pub cards-open : Fit job → (racking : List ℕ) → Filled (racksOf job) racking → cardsNumber job b places cards ≡ 0 → OpenCards job b places cards racking
+  pub cards-open : Fit job → (racking : List ℕ) → Racked (racksOf job) racking → cardsNumber job b places cards ≡ 0 → OpenCards job b places cards racking
   unfolding cardsNumber badBytes
-  cards-open fit racking filled z =
+  cards-open fit racking racked z =
       let r = cards-racks z in
       let a = first-off (eqb (job .refused) 1) 1 _ (λ e. omega arith) z in
       let c = first-off (badBytes b) 2 _ (λ e. omega arith) (a .1) in
       let g = cards-good (racksOf job) b places cards (sym (refusal-past (job .refused) _ r) ∙ c .1) in
       record {
-        table = record { sound = fit r; legal = g .0; filled = filled };
+        table = record { sound = fit r; legal = g .0; filled = racked .filled; long = racked .long };
         bytes = ltb-false 256 b (or-off-r (eqb b 0) (c .0));
         long = g .1;
       }
@@ -160,12 +160,12 @@ bytes-good b f l = or-none (ne-eqb b 0 f) (le-ltb 256 b l)
 given : (n : ℕ) → 0 < n → n ≡ 0 → ⊥
 given n l e = omega arith
 
-table-marked : (racks : List Rack) (places : List ℕ) → Marked (tableChecks racks places)
-unfolding tableChecks
+table-marked : (racks : List Rack) (places : List ℕ) → Refusing (tableChecks racks places)
+unfolding tableChecks placesChecks rackChecks
 table-marked racks places =
     more (given 1 (omega arith)) (more (given 3 (omega arith)) (more (given 4 (omega arith)) (more (given 5 (omega arith)) (more (given 6 (omega arith)) none))))
 
-pub cards-marked : (racks : List Rack) (b : ℕ) (places cards : List ℕ) → Marked (cardChecks racks b places cards)
+pub cards-marked : (racks : List Rack) (b : ℕ) (places cards : List ℕ) → Refusing (cardChecks racks b places cards)
 unfolding cardChecks
 cards-marked racks b places cards =
     more (given 1 (omega arith))

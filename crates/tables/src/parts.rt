@@ -6,7 +6,7 @@ ghost use lib.ListN.{length, replicate};
 ghost use Rattle.counting.specs.Tests.{bit, _and_};
 ghost use Rattle.racks.specs.Limits.{SLOTS, MARKS};
 ghost use Rattle.racks.specs.Job.{racksOf, Sound, Fit};
-ghost use Rattle.tables.specs.parts.Tables.{namedSlot, Filled, Marked, Between, Checked, CardsChecked, checkedBy};
+ghost use Rattle.tables.specs.parts.Tables.{namedSlot, Racked, UsersMarked, Between, Checked, CardsChecked, checkedBy};
 ghost use Rattle.tables.specs.parts.Marks.{Entered, entriesNumber, worse};
 ghost use Rattle.tables.specs.parts.Once.{placeOf, MarkTaken, OnceMarked};
 use answers::Answer;
@@ -48,7 +48,7 @@ fn fill(list: &mut [u8], low: usize, high: usize, value: u8)
 // Each slot's rack. What stands behind the last slot is left.
 pub fn fill_racking(job: Job, racking: &mut [u8; Job::MAX_SLOTS])
     requires { ⌜ Sound job × (length (now racking) ≡ SLOTS) ⌝ }
-    ensures { λ _. ⌜ Filled (racksOf job) (now (racking .exit)) ⌝ }
+    ensures { λ _. ⌜ Racked (racksOf job) (now (racking .exit)) ⌝ }
 {
     let n = job.racks;
     let mut low: usize = 0;
@@ -64,7 +64,7 @@ pub fn fill_racking(job: Job, racking: &mut [u8; Job::MAX_SLOTS])
 // 1 for each user slot, where all marks are 0.
 pub fn mark_users(job: Job, marks: &mut [u8; Job::MAX_SLOTS])
     requires { ⌜ Sound job × (now marks ≡ replicate SLOTS 0) ⌝ }
-    ensures { λ _. ⌜ Marked (racksOf job) (now (marks .exit)) ⌝ }
+    ensures { λ _. ⌜ UsersMarked (racksOf job) (now (marks .exit)) ⌝ }
 {
     let n = job.racks;
     let mut low: usize = 0;
@@ -112,7 +112,7 @@ pub fn worse_of(was: u8, now: u8) -> u8
 
 // 5, 6 or 0 for the entries, S of them: one pass. The marks are lent with the user slots marked.
 fn entries_number(job: Job, places: &[u16], marks: &mut [u8; Job::MAX_SLOTS]) -> u8
-    requires { ⌜ Sound job × (length (now places) ≡ job .slots) × Marked (racksOf job) (now marks) ⌝ }
+    requires { ⌜ Sound job × (length (now places) ≡ job .slots) × UsersMarked (racksOf job) (now marks) ⌝ }
     ensures { λ r. ⌜ r ≡ entriesNumber (racksOf job) (now (places .entry)) ⌝ }
 {
     let mut worst: u8 = 0;

@@ -69,7 +69,7 @@ pub record Topped (words : List ℕ) : Type 0 where
   pub tops : (w : ℕ) → w < 64 → bitOn (getD words 64 0) w ≡ not (eqb (getD words w 0) 0)
 
 -- r is the first number from low on that passes a test, or high where none below high does
-pub record Next (test : ℕ → Bool) (low high r : ℕ) : Type 0 where
+pub record NextOn (test : ℕ → Bool) (low high r : ℕ) : Type 0 where
   pub up : low ≤ r
   pub within : r ≤ high
   pub passed : (k : ℕ) → low ≤ k → k < r → test k ≡ false
@@ -96,6 +96,6 @@ pub record Onward (words : List ℕ) (at rest : ℕ) : Type 0 where
   pub later : rest ≡ 0 → Later words at
 
 -- a walk goes on, to a later word maybe, wherever it has come to; something is left then
-pub record Walked (words : List ℕ) (at rest at′ rest′ : ℕ) : Type 0 where
+pub record WalkedOn (words : List ℕ) (at rest at′ rest′ : ℕ) : Type 0 where
   pub kept : (t : ℕ) → Walking words t at rest → Walking words t at′ rest′
   pub left : rest′ ≡ 0 → ⊥

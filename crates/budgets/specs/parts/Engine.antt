@@ -66,30 +66,30 @@ pub record Noted (racking : List ℕ) (ms : List Pair) (line bits line′ bits�
   pub bits-are : bits′ ≡ noted ms bits
 
 -- what a phase needs
-pub record Runnable (b k : ℕ) (t : Tally) (h : Held) (racking line bits log : List ℕ) : Type 0 where
+pub record Runnable (ends : List ℕ) (b k : ℕ) (t : Tally) (h : Held) (racking line bits log : List ℕ) : Type 0 where
   pub within : t .moves ≤ k
   pub few : t .moves ≤ SLOTS
-  pub plannable : Plannable line bits log (2 * t .moves)
+  pub plannable : Plannable ends line bits log (2 * t .moves)
   pub small : length (h .places) ≤ SLOTS
   pub sized : length (h .places) * b ≡ length (h .cards)
-  pub plan-few : length (queuedPlan RACKS (rowsOf line bits)) ≤ SLOTS
-  pub slots : AllSlots (length (h .places)) (queuedPlan RACKS (rowsOf line bits))
+  pub plan-few : length (queuedPlan RACKS (rowsOf ends line bits)) ≤ SLOTS
+  pub slots : AllSlots (length (h .places)) (queuedPlan RACKS (rowsOf ends line bits))
   pub racked : (g : ℕ) → g < length (h .places) → getD racking g 0 < RACKS
 
 -- a phase run: its plan is written behind what the log has, the first pairs of it, as many as are left of k, are carried, added and noted
-pub record PhaseRun (b k : ℕ) (t : Tally) (h : Held) (racking line bits log : List ℕ) (t′ : Tally) (h′ : Held) (line′ bits′ log′ : List ℕ) : Type 0 where
+pub record PhaseRun (ends : List ℕ) (b k : ℕ) (t : Tally) (h : Held) (racking line bits log : List ℕ) (t′ : Tally) (h′ : Held) (line′ bits′ log′ : List ℕ) : Type 0 where
   pub line₁ : List ℕ
   pub bits₁ : List ℕ
   pub count : ℕ
-  pub planned : PhasePlanned line bits log (2 * t .moves) line₁ bits₁ log′ count
-  pub done : Carried b (take (k - t .moves) (queuedPlan RACKS (rowsOf line bits))) h t h′ t′
-  pub noted-are : Noted racking (take (k - t .moves) (queuedPlan RACKS (rowsOf line bits))) line₁ bits₁ line′ bits′
+  pub planned : PhasePlanned ends line bits log (2 * t .moves) line₁ bits₁ log′ count
+  pub done : Carried b (take (k - t .moves) (queuedPlan RACKS (rowsOf ends line bits))) h t h′ t′
+  pub noted-are : Noted racking (take (k - t .moves) (queuedPlan RACKS (rowsOf ends line bits))) line₁ bits₁ line′ bits′
 
 -- what the engine needs of a job: a legal table with its cards, and rows that fit it
 pub record Going (job : Job) (b : ℕ) (h : Held) (racking line bits log : List ℕ) : Type 0 where
   pub opened : Open job (h .places) racking
   pub spared : Spared (racksOf job)
-  pub started : Started (racksOf job) (h .places) line bits
+  pub started : Started (racksOf job) (h .places) (job .ends) line bits
   pub cards-long : length (h .cards) ≡ slots (racksOf job) * b
   pub room : PAIRS ≤ length log
 

@@ -23,12 +23,12 @@ pub record Fixed (racks : List Rack) (racking : List ℕ) : Type 0 where
   pub filled : Filled racks racking
 
 -- some of an allowance of k moves are made since the table and the cards were h₀
-pub record Turn (racks : List Rack) (b k : ℕ) (h₀ : Held) (t : Tally) (h : Held) (line bits log : List ℕ) : Type 0 where
+pub record Turn (racks : List Rack) (ends : List ℕ) (b k : ℕ) (h₀ : Held) (t : Tally) (h : Held) (line bits log : List ℕ) : Type 0 where
   pub within : t .moves ≤ k
   pub legal : Legal racks (h .places)
   pub cards-long : length (h .cards) ≡ slots racks * b
   pub line-long : length line ≡ LINE
   pub room : PAIRS ≤ length log
-  pub ready : t .moves < k → Ready racks (h .places) (rowsOf line bits)
+  pub ready : t .moves < k → Ready racks (h .places) (rowsOf ends line bits)
   pub rest : carried b (budget racks (k - t .moves) (h .places)) h ≡ carried b (budget racks k (h₀ .places)) h₀
   pub count : t .moves + aways racks (h .places) ≡ aways racks (h₀ .places)

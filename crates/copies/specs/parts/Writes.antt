@@ -1,6 +1,5 @@
 -- What the inner functions of the copy list promise: copies counted, and written into a list. Assumes nothing: these are definitions.
 use mathlib.Core.Path.{_≡_}
-use mathlib.Core.Logic.{_≢_}
 use mathlib.Core.Bool.{Bool, not}
 use mathlib.Core.List.{List, [], _∷_}
 use Prim.Native.Nat.{ℕ, _+_, _*_}
@@ -11,14 +10,13 @@ use Rattle.counting.specs.Tests.{pick}
 use Rattle.counting.specs.Count.{some}
 use Rattle.counting.specs.Checks.{first, refusal}
 use Rattle.counting.specs.Lists.{Pair, flat}
-use Rattle.racks.specs.Limits.{SLOTS}
 use Rattle.racks.specs.Numbers.{someAway, tooShort}
 use Rattle.racks.specs.Job.{racksOf}
 use Rattle.racks.specs.declared.Job.{Job}
 use Rattle.answers.specs.Answers.{copiesOf, Listed, listed}
 use Rattle.tables.specs.parts.Tables.{awayBy, tableNumber}
 use Rattle.factors.specs.Copies.{factor, copies, copyList}
-use Rattle.factors.specs.parts.Walks.{Marked}
+use Rattle.factors.specs.parts.Walks.{LISTED, Marked, SomeMarked}
 
 -- a card is away, by a table of each slot's rack
 unfoldable pub someAwayBy : List ℕ → List ℕ → Bool
@@ -27,11 +25,6 @@ someAwayBy racking places = some (length places) (awayBy racking places)
 -- the list with copies written from copy `at` on, two numbers each
 unfoldable pub putCopies : List ℕ → ℕ → List Pair → List ℕ
 putCopies list at cs = sets list (2 * at) (flat cs)
-
--- no slot has this mark
-pub record Unmarked (mark : ℕ) (seen : List ℕ) : Type 0 where
-  pub none : (v : ℕ) → getD seen v 0 ≢ mark
-  pub long : length seen ≡ SLOTS
 
 -- the slots that are due at slot k: its factor, unless that is marked
 unfoldable pub due : List ℕ → ℕ → List ℕ → ℕ → List ℕ
@@ -43,14 +36,15 @@ pub record Counted (places : List ℕ) (mark k at : ℕ) (seen : List ℕ) (coun
   pub marked : Marked mark (due places mark seen k) seen marks
 
 -- the same, and they are written from copy `at` on
-pub record Written (places : List ℕ) (mark k at : ℕ) (list seen : List ℕ) (count : ℕ) (after marks : List ℕ) : Type 0 where
+pub record CopiesWritten (places : List ℕ) (mark k at : ℕ) (list seen : List ℕ) (count : ℕ) (after marks : List ℕ) : Type 0 where
   pub counted : Counted places mark k at seen count marks
   pub list-is : after ≡ putCopies list at (copies places (due places mark seen k))
 
--- the whole list is written from the front, and counted
-pub record AllWritten (places list : List ℕ) (count : ℕ) (after : List ℕ) : Type 0 where
+-- the whole list is written from the front, and counted; no other mark is made
+pub record AllWritten (places list seen : List ℕ) (count : ℕ) (after marks : List ℕ) : Type 0 where
   pub count-is : count ≡ length (copyList places)
   pub list-is : after ≡ putCopies list 0 (copyList places)
+  pub marked : SomeMarked LISTED seen marks
 
 -- a list of so many numbers has room for the copies
 unfoldable pub fits : ℕ → List ℕ → Bool

@@ -2,12 +2,12 @@
 ghost use mathlib.Core.Path.{_≡_};
 ghost use mathlib.Core.List.{[], _∷_};
 ghost use Prim.Native.Nat.{_+_, _*_, _≤_, _<_};
-ghost use lib.ListN.{length, replicate};
+ghost use lib.ListN.{length};
 ghost use Rattle.racks.specs.Limits.{COPIES, SLOTS};
 ghost use Rattle.factors.specs.Copies.{next, shift, copies, copyList};
 ghost use Rattle.factors.specs.parts.Chains.{Chained};
-ghost use Rattle.factors.specs.parts.Walks.{Sources, steps, Inside, walked, walkCount};
-ghost use Rattle.copies.specs.parts.Writes.{putCopies, Unmarked, due, Counted, Written, AllWritten, fits};
+ghost use Rattle.factors.specs.parts.Walks.{COUNTED, LISTED, Sources, Unmarked, steps, Inside, walked, walkCount};
+ghost use Rattle.copies.specs.parts.Writes.{putCopies, due, Counted, CopiesWritten, AllWritten, fits};
 use factors::parts::walks;
 use racks::Job;
 
@@ -25,31 +25,27 @@ pub fn count_walk(left: usize, end: u16) -> usize
 // The copies of the factor of slot k are counted, unless it is marked.
 pub fn count_slot(
     places: &[u16],
-    sources: &[u16; Job::SOURCES],
+    sources: &[u16],
     seen: &mut [u8; Job::MAX_SLOTS],
     k: usize,
     at: usize,
 ) -> usize
-    requires { ⌜ Chained (now places) × Sources (now places) (now sources) × (k < length (now places)) × (length (now seen) ≡ SLOTS) × (at + length (copies (now places) (due (now places) 1 (now seen) k)) ≤ COPIES) ⌝ }
-    ensures { λ r. ⌜ Counted (now (places .entry)) 1 k at (now (seen .entry)) r (now (seen .exit)) ⌝ }
+    requires { ⌜ Chained (now places) × Sources (now places) (now sources) × (k < length (now places)) × (length (now seen) ≡ SLOTS) × (at + length (copies (now places) (due (now places) COUNTED (now seen) k)) ≤ COPIES) ⌝ }
+    ensures { λ r. ⌜ Counted (now (places .entry)) COUNTED k at (now (seen .entry)) r (now (seen .exit)) ⌝ }
 {
-    if seen[k] == 1 {
+    if seen[k] == walks::COUNTED {
         return at;
     }
-    let w = walks::walk_factor(places, sources, seen, 1, k);
+    let w = walks::walk_factor(places, sources, seen, walks::COUNTED, k);
     let count = count_walk(w.left, w.end);
     at + count
 }
 
 // How many copies the list has. The marks that are left do not hinder its writing.
-pub fn count_factors(
-    places: &[u16],
-    sources: &[u16; Job::SOURCES],
-    seen: &mut [u8; Job::MAX_SLOTS],
-) -> usize
-    requires { ⌜ Chained (now places) × Sources (now places) (now sources) × (now seen ≡ replicate SLOTS 0) ⌝ }
+pub fn count_factors(places: &[u16], sources: &[u16], seen: &mut [u8; Job::MAX_SLOTS]) -> usize
+    requires { ⌜ Chained (now places) × Sources (now places) (now sources) × Unmarked (now places) COUNTED (now seen) × Unmarked (now places) LISTED (now seen) ⌝ }
     ensures count { λ r. ⌜ r ≡ length (copyList (now (places .entry))) ⌝ }
-    ensures marks { λ _. ⌜ Unmarked 2 (now (seen .exit)) ⌝ }
+    ensures marks { λ _. ⌜ Unmarked (now (places .entry)) LISTED (now (seen .exit)) ⌝ }
 {
     let mut at: usize = 0;
     let mut k: usize = 0;
@@ -64,13 +60,13 @@ pub fn count_factors(
 // nothing has to be counted.
 pub fn has_room(
     places: &[u16],
-    sources: &[u16; Job::SOURCES],
+    sources: &[u16],
     seen: &mut [u8; Job::MAX_SLOTS],
     room: usize,
 ) -> bool
-    requires { ⌜ Chained (now places) × Sources (now places) (now sources) × (now seen ≡ replicate SLOTS 0) ⌝ }
+    requires { ⌜ Chained (now places) × Sources (now places) (now sources) × Unmarked (now places) COUNTED (now seen) × Unmarked (now places) LISTED (now seen) ⌝ }
     ensures room { λ r. ⌜ r ≡ fits room (now (places .entry)) ⌝ }
-    ensures marks { λ _. ⌜ Unmarked 2 (now (seen .exit)) ⌝ }
+    ensures marks { λ _. ⌜ Unmarked (now (places .entry)) LISTED (now (seen .exit)) ⌝ }
 {
     if 3 * places.len() <= room {
         return true;
@@ -132,31 +128,31 @@ pub fn write_walk(
 // The copies of the factor of slot k are written, unless it is marked.
 pub fn write_slot(
     places: &[u16],
-    sources: &[u16; Job::SOURCES],
+    sources: &[u16],
     seen: &mut [u8; Job::MAX_SLOTS],
     list: &mut [u16],
     k: usize,
     at: usize,
 ) -> usize
-    requires { ⌜ Chained (now places) × Sources (now places) (now sources) × (k < length (now places)) × (length (now seen) ≡ SLOTS) × (at + length (copies (now places) (due (now places) 2 (now seen) k)) ≤ COPIES) × (2 * (at + length (copies (now places) (due (now places) 2 (now seen) k))) ≤ length (now list)) ⌝ }
-    ensures { λ r. ⌜ Written (now (places .entry)) 2 k at (now (list .entry)) (now (seen .entry)) r (now (list .exit)) (now (seen .exit)) ⌝ }
+    requires { ⌜ Chained (now places) × Sources (now places) (now sources) × (k < length (now places)) × (length (now seen) ≡ SLOTS) × (at + length (copies (now places) (due (now places) LISTED (now seen) k)) ≤ COPIES) × (2 * (at + length (copies (now places) (due (now places) LISTED (now seen) k))) ≤ length (now list)) ⌝ }
+    ensures { λ r. ⌜ CopiesWritten (now (places .entry)) LISTED k at (now (list .entry)) (now (seen .entry)) r (now (list .exit)) (now (seen .exit)) ⌝ }
 {
-    if seen[k] == 2 {
+    if seen[k] == walks::LISTED {
         return at;
     }
-    let w = walks::walk_factor(places, sources, seen, 2, k);
+    let w = walks::walk_factor(places, sources, seen, walks::LISTED, k);
     write_walk(places, list, w.head, w.left, w.end, at)
 }
 
 // The copies of every factor, by its lowest slot, from the front of the lent list; how many there are.
 pub fn write_factors(
     places: &[u16],
-    sources: &[u16; Job::SOURCES],
+    sources: &[u16],
     seen: &mut [u8; Job::MAX_SLOTS],
     list: &mut [u16],
 ) -> usize
-    requires { ⌜ Chained (now places) × Sources (now places) (now sources) × Unmarked 2 (now seen) × (2 * length (copyList (now places)) ≤ length (now list)) ⌝ }
-    ensures { λ r. ⌜ AllWritten (now (places .entry)) (now (list .entry)) r (now (list .exit)) ⌝ }
+    requires { ⌜ Chained (now places) × Sources (now places) (now sources) × Unmarked (now places) LISTED (now seen) × (2 * length (copyList (now places)) ≤ length (now list)) ⌝ }
+    ensures { λ r. ⌜ AllWritten (now (places .entry)) (now (list .entry)) (now (seen .entry)) r (now (list .exit)) (now (seen .exit)) ⌝ }
 {
     let mut at: usize = 0;
     let mut k: usize = 0;

@@ -2,23 +2,32 @@
 use mathlib.Core.Path.{_≡_}
 use mathlib.Core.Logic.{_≢_, _⊎_}
 use mathlib.Core.List.{List, [], _∷_, _++_}
-use Prim.Native.Nat.{ℕ, zero, suc, _+_, _<_}
+use Prim.Native.Nat.{ℕ, zero, suc, _+_, _≤_, _<_}
 use lib.Dec.{eqb}
-use lib.ListN.{length, getD, set, replicate}
+use lib.ListN.{length, getD, set}
 use Rattle.counting.specs.Tests.{pick}
 use Rattle.counting.specs.Lists.{Pair, among, last}
 use Rattle.racks.specs.Limits.{FREE, HAND, SLOTS, SOURCES}
 use Rattle.tables.specs.parts.Tables.{namedSlot}
 use Rattle.factors.specs.Copies.{next, source, onward, back, shift, factor, copies}
 
--- a table for the sources, as it is made: no card comes anywhere
-abbrev pub noSources : List ℕ
-noSources = replicate SOURCES FREE
+-- the mark of a slot whose copies are counted or made: no rack has this number, so that the racking serves as marks, uncleared
+abbrev pub COUNTED : ℕ
+COUNTED = 64
 
--- the table has, for each slot, the slot whose card is bound for it: the inverse of the places table; one place more, behind all slots, has what comes from free slots
+-- the mark of a slot whose copies are listed: no rack has this number, so that the racking serves as marks, uncleared
+abbrev pub LISTED : ℕ
+LISTED = 65
+
+-- a list for the sources of n slots, as it is made or cleared: no card comes to any of them
+pub record NoSources (n : ℕ) (noted : List ℕ) : Type 0 where
+  pub none : (d : ℕ) → d < n → getD noted d 0 ≡ FREE
+  pub long : SOURCES ≤ length noted
+
+-- the list has, for each slot, the slot whose card is bound for it: the inverse of the places table; a place behind all slots is for what comes from free ones
 pub record Sources (places noted : List ℕ) : Type 0 where
-  pub sources : (d : ℕ) → d < SLOTS → getD noted d 0 ≡ source places d
-  pub long : length noted ≡ SOURCES
+  pub sources : (d : ℕ) → d < length places → getD noted d 0 ≡ source places d
+  pub long : SOURCES ≤ length noted
 
 -- the notes with slot g as the source of slot x; behind all slots where x is 65,535
 unfoldable pub putSource : List ℕ → ℕ → ℕ → List ℕ
@@ -50,6 +59,16 @@ handEnd from n = pick (eqb n 0) FREE from
 pub record Marked (mark : ℕ) (slots before after : List ℕ) : Type 0 where
   pub marks : (v : ℕ) → getD after v 0 ≡ pick (among v slots) mark (getD before v 0)
   pub long : length after ≡ length before
+
+-- some slots have the mark, all others are as they were
+pub record SomeMarked (mark : ℕ) (before after : List ℕ) : Type 0 where
+  pub slots : List ℕ
+  pub marked : Marked mark slots before after
+
+-- no slot of the table has this mark
+pub record Unmarked (places : List ℕ) (mark : ℕ) (seen : List ℕ) : Type 0 where
+  pub none : (v : ℕ) → v < length places → getD seen v 0 ≢ mark
+  pub long : length seen ≡ SLOTS
 
 -- the slots that follow slot h by a table, marked: the last of them, how many they are, and the entry there
 pub record Passed (table : List ℕ) (mark h : ℕ) (seen : List ℕ) (head left end : ℕ) (marks : List ℕ) : Type 0 where

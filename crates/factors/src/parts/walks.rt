@@ -1,13 +1,25 @@
 // The chains of a table, for the copy list and for the shuffle: its inverse, and the walk through the factor of a slot.
 ghost use mathlib.Core.Path.{_≡_};
-ghost use Prim.Native.Nat.{_<_};
+ghost use Prim.Native.Nat.{_≤_, _<_};
 ghost use lib.ListN.{length};
 ghost use Rattle.racks.specs.Limits.{SLOTS, SOURCES};
 ghost use Rattle.tables.specs.parts.Tables.{namedSlot};
 ghost use Rattle.factors.specs.parts.Chains.{Chained};
-ghost use Rattle.factors.specs.parts.Walks.{noSources, Sources, putSource, handEnd, Passed, MarkedOn, MarkedBack, Walked};
+ghost use Rattle.factors.specs.parts.Walks.{COUNTED, LISTED, NoSources, Sources, putSource, handEnd, Passed, MarkedOn, MarkedBack, Walked};
 use crate::parts;
 use racks::Job;
+
+// The mark of a slot whose copies are counted or made: no rack has this number, so that the racking serves as marks, uncleared.
+pub const COUNTED: u8 = 64;
+
+// The mark of a slot whose copies are listed: no rack has this number, so that the racking serves as marks, uncleared.
+pub const LISTED: u8 = 65;
+
+// The marks of the code are those of the definitions.
+pub fn marks_agree()
+    ensures { λ _. do ⌜ COUNTED ≡ (← ⟦COUNTED⟧ .entry) ⌝ }
+    ensures { λ _. do ⌜ LISTED ≡ (← ⟦LISTED⟧ .entry) ⌝ }
+{}
 
 // A factor: its first slot, how many slots follow, and on a cycle of two slots or more the slot whose card goes to the hand, else 65,535. One
 // way through it, on or back: its last slot, how many slots were passed, and the entry there.
@@ -19,17 +31,29 @@ pub struct Walk {
 
 // One entry of the inverse: the card in slot g is bound for slot x. Of a free slot it is stored behind all slots, where nothing is read: so
 // there is no branch, which could not be foretold where free and taken slots alternate at random.
-pub fn put_source(sources: &mut [u16; Job::SOURCES], x: u16, g: usize)
-    requires { ⌜ (length (now sources) ≡ SOURCES) × (g < SLOTS) × (namedSlot SLOTS x < SOURCES) ⌝ }
+pub fn put_source(sources: &mut [u16], x: u16, g: usize)
+    requires { ⌜ (SOURCES ≤ length (now sources)) × (g < SLOTS) × (namedSlot SLOTS x < SOURCES) ⌝ }
     ensures { λ _. ⌜ now (sources .exit) ≡ putSource (now (sources .entry)) x g ⌝ }
 {
     let to = tables::parts::named_slot(x, Job::MAX_SLOTS);
     sources[to] = g as u16;
 }
 
-// The inverse of the table, for each slot the slot whose card is bound for it, in one pass over a table as it was made.
-pub fn fill_sources(places: &[u16], sources: &mut [u16; Job::SOURCES])
-    requires { ⌜ Chained (now places) × (now sources ≡ noSources) ⌝ }
+// A list that had other numbers, for the sources of n slots: no card comes to any of them.
+pub fn clear_sources(sources: &mut [u16], n: usize)
+    requires { ⌜ (n ≤ SLOTS) × (SOURCES ≤ length (now sources)) ⌝ }
+    ensures { λ _. ⌜ NoSources n (now (sources .exit)) ⌝ }
+{
+    let mut d: usize = 0;
+    while d < n {
+        sources[d] = Job::FREE;
+        d = d + 1;
+    }
+}
+
+// The inverse of the table, for each slot the slot whose card is bound for it, in one pass over a list as it is made or cleared.
+pub fn fill_sources(places: &[u16], sources: &mut [u16])
+    requires { ⌜ Chained (now places) × NoSources (length (now places)) (now sources) ⌝ }
     ensures { λ _. ⌜ Sources (now (places .entry)) (now (sources .exit)) ⌝ }
 {
     let mut g: usize = 0;
@@ -109,7 +133,7 @@ pub fn mark_on(places: &[u16], seen: &mut [u8; Job::MAX_SLOTS], mark: u8, h: usi
 // Marks the slots on the way back from slot k: on, by the inverse. What is stored behind its slots is no entry, so that is not lent.
 pub fn mark_back(
     places: &[u16],
-    sources: &[u16; Job::SOURCES],
+    sources: &[u16],
     seen: &mut [u8; Job::MAX_SLOTS],
     mark: u8,
     k: usize,
@@ -117,15 +141,14 @@ pub fn mark_back(
     requires { ⌜ Chained (now places) × Sources (now places) (now sources) × (k < length (now places)) × (length (now seen) ≡ SLOTS) ⌝ }
     ensures { λ r. ⌜ MarkedBack (now (places .entry)) mark k (now (seen .entry)) (r .head) (r .left) (now (seen .exit)) ⌝ }
 {
-    let all = &sources[..];
     let n = places.len();
-    mark_along(&all[..n], seen, mark, k)
+    mark_along(&sources[..n], seen, mark, k)
 }
 
 // The walk through the factor of slot k, which is marked.
 pub fn walk_factor(
     places: &[u16],
-    sources: &[u16; Job::SOURCES],
+    sources: &[u16],
     seen: &mut [u8; Job::MAX_SLOTS],
     mark: u8,
     k: usize,

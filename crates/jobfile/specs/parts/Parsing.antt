@@ -1,17 +1,16 @@
 -- What the parts of the file reader promise. Assumes nothing: these are definitions.
 use mathlib.Core.Path.{_≡_}
-use mathlib.Core.Bool.{false, not}
+use mathlib.Core.Bool.{false}
 use mathlib.Core.List.{List, [], _∷_}
-use Prim.Native.Nat.{ℕ, _+_, _-_, _*_, _≤_}
-use lib.Dec.{eqb, ltb}
+use Prim.Native.Nat.{ℕ, _-_, _*_, _≤_}
+use lib.Dec.{ltb}
 use lib.ListN.{length, take, drop}
-use Rattle.counting.specs.Tests.{_and_, _or_, pick}
+use Rattle.counting.specs.Tests.{_or_, pick}
 use Rattle.counting.specs.Lists.{each}
 use Rattle.counting.specs.Checks.{Check, first, refusal, done}
 use Rattle.racks.specs.Limits.{USERS, TOTAL, BYTES, RACKS, SLOTS}
 use Rattle.racks.specs.Racks.{Rack, ofCaps, slots}
-use Rattle.racks.specs.Numbers.{badSize, badTwice}
-use Rattle.racks.specs.Job.{rackChecks}
+use Rattle.racks.specs.Numbers.{badSize, badTwice, rackChecks}
 use Rattle.jobfile.specs.Numeral.{Got, refused, numeral, Numerals, numerals}
 use Rattle.jobfile.specs.File.{wrongM, wrongEntry, entryOf, readN, readB, readM, fileRacks, fileBytes, filePlaces, fileChecks}
 use Rattle.jobfile.specs.Answers.{fileAnswer}
@@ -19,14 +18,9 @@ use Rattle.jobfile.specs.declared.FileAnswer.{FileAnswer}
 use Rattle.jobfile.specs.declared.parts.Taken.{Taken}
 use Rattle.jobfile.specs.declared.parts.Head.{Head}
 
--- the last group of a numeral: 14 where it is 0 and not the only one
-unfoldable pub lastGroup : ℕ → ℕ → ℕ → ℕ → Got
-lastGroup value weight x next =
-    pick (eqb x 0 and not (eqb weight 1)) (refused 14) (record { number = 0; value = value + x * weight; place = next })
-
 -- a numeral read and checked: first its form, then by `bad`
-unfoldable pub checkedBy : (ℕ → ℕ) → List ℕ → ℕ → Got
-checkedBy bad file at =
+unfoldable pub checkedNumeral : (ℕ → ℕ) → List ℕ → ℕ → Got
+checkedNumeral bad file at =
     let x = numeral file at in
     let n = first (refusal (x .number) ∷ refusal (bad (x .value)) ∷ []) in
     pick (done n) x (refused n)
@@ -36,12 +30,12 @@ unfoldable pub outside : ℕ → ℕ → ℕ → ℕ → ℕ
 outside low high n x = first ((ltb x low or ltb high x, n) ∷ [])
 
 -- a numeral between two limits
-unfoldable pub between : ℕ → ℕ → ℕ → List ℕ → ℕ → Got
-between low high n = checkedBy (outside low high n)
+unfoldable pub ranged : ℕ → ℕ → ℕ → List ℕ → ℕ → Got
+ranged low high n = checkedNumeral (outside low high n)
 
 -- the highest m_p that is not refused, with `total` user slots before it
-unfoldable pub room : ℕ → ℕ
-room total = pick (ltb (TOTAL - total) USERS) (TOTAL - total) USERS
+unfoldable pub roomFor : ℕ → ℕ
+roomFor total = pick (ltb (TOTAL - total) USERS) (TOTAL - total) USERS
 
 -- the numerals that an answer and the list that they were put in are
 unfoldable pub takenOf : Taken → List ℕ → Numerals

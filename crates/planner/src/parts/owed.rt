@@ -24,7 +24,7 @@ fn count_slot(
 {
     let from = racking[g] as usize;
     let to = racking[tables::parts::named_slot(places[g], g)] as usize;
-    let k = from * 64 + to;
+    let k = from * Job::MAX_RACKS + to;
     owes[k] = owes[k] + tables::parts::one_if(from != to);
 }
 
@@ -66,7 +66,7 @@ pub fn grant_rack(n: usize, owes: &[u16; Job::CELLS], p: usize, room: usize) -> 
     let mut r = room;
     let mut i: usize = 0;
     while i < n {
-        r = r - grant_source(p, r, i, owes[i * 64 + p]);
+        r = r - grant_source(p, r, i, owes[i * Job::MAX_RACKS + p]);
         i = i + 1;
     }
     room - r

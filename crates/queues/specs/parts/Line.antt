@@ -20,13 +20,9 @@ TAILS = 4224
 abbrev pub ROOMS : ℕ
 ROOMS = 4288
 
--- where the search for each rack's free slots begins
-abbrev pub LOWS : ℕ
-LOWS = 4352
-
 -- how many numbers the line has
 abbrev pub LINE : ℕ
-LINE = 4416
+LINE = 4352
 
 -- which of the words beside the line has a bit for each rack that waits
 abbrev pub WAITING : ℕ
@@ -52,7 +48,3 @@ tailOf line p = getD line (TAILS + p) 0
 -- how many free slots rack p has
 abbrev pub roomOf : List ℕ → ℕ → ℕ
 roomOf line p = getD line (ROOMS + p) 0
-
--- where the search for rack p's free slots begins
-abbrev pub lowOf : List ℕ → ℕ → ℕ
-lowOf line p = getD line (LOWS + p) 0

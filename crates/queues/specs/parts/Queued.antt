@@ -12,7 +12,7 @@ use Rattle.racks.specs.Table.{dest, free}
 use Rattle.tables.specs.parts.Tables.{namedSlot, target, awayBy}
 use Rattle.plans.specs.Plan.{room}
 use Rattle.bits.specs.parts.Bits.{bitOn}
-use Rattle.queues.specs.parts.Line.{headOf, tailOf, roomOf, lowOf, HEADS, TAILS, ROOMS, LOWS, LINE}
+use Rattle.queues.specs.parts.Line.{headOf, tailOf, roomOf, HEADS, TAILS, ROOMS, LINE}
 
 -- slot g is free, and not below low
 unfoldable pub freeFrom : List ℕ → ℕ → ℕ → Bool
@@ -24,18 +24,16 @@ begins racks p = base racks p + p
 
 -- the line with rack p, which begins at slot low and has so many free slots; its queue is empty
 unfoldable pub placed : ℕ → ℕ → ℕ → List ℕ → List ℕ
-placed p low rooms line = set (set (set (set line (HEADS + p) (low + p)) (TAILS + p) (low + p)) (ROOMS + p) rooms) (LOWS + p) low
+placed p low rooms line = set (set (set line (HEADS + p) (low + p)) (TAILS + p) (low + p)) (ROOMS + p) rooms
 
 -- the line has the first n racks, with empty queues, and of the others nothing
 pub record Placed (racks : List Rack) (places : List ℕ) (n : ℕ) (line : List ℕ) : Type 0 where
   pub heads-are : (p : ℕ) → p < n → headOf line p ≡ begins racks p
   pub tails-are : (p : ℕ) → p < n → tailOf line p ≡ begins racks p
   pub rooms-are : (p : ℕ) → p < n → roomOf line p ≡ room racks places p
-  pub lows-are : (p : ℕ) → p < n → lowOf line p ≡ base racks p
   pub heads-none : (p : ℕ) → n ≤ p → p < RACKS → headOf line p ≡ 0
   pub tails-none : (p : ℕ) → n ≤ p → p < RACKS → tailOf line p ≡ 0
   pub rooms-none : (p : ℕ) → n ≤ p → p < RACKS → roomOf line p ≡ 0
-  pub lows-none : (p : ℕ) → n ≤ p → p < RACKS → lowOf line p ≡ 0
   pub long : length line ≡ LINE
 
 -- one more at k

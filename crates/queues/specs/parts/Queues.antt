@@ -10,8 +10,9 @@ use Rattle.counting.specs.Tests.{_and_}
 use Rattle.counting.specs.Count.{select}
 use Rattle.counting.specs.Lists.{Pair, tabulate, join, pairUp, flat}
 use Rattle.racks.specs.Limits.{RACKS, SLOTS}
+use Rattle.racks.specs.Job.{startIn}
 use Rattle.bits.specs.parts.Bits.{bitOn, isOn, Topped}
-use Rattle.queues.specs.parts.Line.{queueOf, headOf, tailOf, roomOf, lowOf, HEADS, ROOMS, LINE, WAITING}
+use Rattle.queues.specs.parts.Line.{queueOf, headOf, tailOf, roomOf, HEADS, ROOMS, LINE, WAITING}
 
 -- slot g is in the set, and not below low
 unfoldable pub openFrom : List ℕ → ℕ → ℕ → Bool
@@ -40,10 +41,10 @@ pub record Rows : Type 0 where
   pub bits : List ℕ
   pub waiting : ℕ
 
--- read from the line and the words
-abbrev pub rowsOf : List ℕ → List ℕ → Rows
-rowsOf line bits =
-    record { queue = queueOf line; heads = headOf line; tails = tailOf line; rooms = roomOf line; lows = lowOf line; bits = bits; waiting = getD bits WAITING 0 }
+-- read from the racks' ends, the line and the words: the search begins at a rack's first slot
+abbrev pub rowsOf : List ℕ → List ℕ → List ℕ → Rows
+rowsOf ends line bits =
+    record { queue = queueOf line; heads = headOf line; tails = tailOf line; rooms = roomOf line; lows = startIn ends; bits = bits; waiting = getD bits WAITING 0 }
 
 -- how many cards rack p takes: as many as wait for it, but no more than it has room for
 unfoldable pub sent : Rows → ℕ → ℕ
@@ -76,7 +77,7 @@ pub record Bounded (rows : Rows) : Type 0 where
   pub exact : Exact RACKS (rows .heads) (rows .tails) (rows .waiting)
 
 -- pairs written from `at` on, and how many
-pub record Written (pairs : List Pair) (before : List ℕ) (at : ℕ) (after : List ℕ) (count : ℕ) : Type 0 where
+pub record PairsWritten (pairs : List Pair) (before : List ℕ) (at : ℕ) (after : List ℕ) (count : ℕ) : Type 0 where
   pub list : after ≡ sets before at (flat pairs)
   pub count-is : count ≡ length pairs
 
@@ -85,31 +86,30 @@ unfoldable pub visited : ℕ → ℕ → List ℕ → List ℕ
 visited p r line = set (set line (HEADS + p) (headOf line p + r)) (ROOMS + p) (roomOf line p - r)
 
 -- rack p visited: its pairs are written, as many as it takes
-pub record Visited (line bits : List ℕ) (p : ℕ) (log : List ℕ) (at : ℕ) (line′ log′ : List ℕ) (r : ℕ) : Type 0 where
-  pub made-is : r ≡ sent (rowsOf line bits) p
-  pub list : log′ ≡ sets log at (flat (pairsFor (rowsOf line bits) p))
+pub record Visited (ends line bits : List ℕ) (p : ℕ) (log : List ℕ) (at : ℕ) (line′ log′ : List ℕ) (r : ℕ) : Type 0 where
+  pub made-is : r ≡ sent (rowsOf ends line bits) p
+  pub list : log′ ≡ sets log at (flat (pairsFor (rowsOf ends line bits) p))
   pub line-is : line′ ≡ visited p r line
 
 -- the first n racks were visited: their queues begin behind the cards that they take, and they have so much less room
-pub record Passed (n : ℕ) (rows rows′ : Rows) : Type 0 where
+pub record RacksPassed (n : ℕ) (rows rows′ : Rows) : Type 0 where
   pub queue-is : rows′ .queue ≡ rows .queue
   pub tails-are : (p : ℕ) → p < RACKS → rows′ .tails p ≡ rows .tails p
-  pub lows-are : (p : ℕ) → p < RACKS → rows′ .lows p ≡ rows .lows p
   pub heads-are : (p : ℕ) → p < n → rows′ .heads p ≡ rows .heads p + sent rows p
   pub rooms-are : (p : ℕ) → p < n → rows′ .rooms p ≡ rows .rooms p - sent rows p
   pub heads-rest : (p : ℕ) → n ≤ p → p < RACKS → rows′ .heads p ≡ rows .heads p
   pub rooms-rest : (p : ℕ) → n ≤ p → p < RACKS → rows′ .rooms p ≡ rows .rooms p
 
 -- a phase can be planned behind `at` in the log
-pub record Plannable (line bits log : List ℕ) (at : ℕ) : Type 0 where
+pub record Plannable (ends line bits log : List ℕ) (at : ℕ) : Type 0 where
   pub long : length line ≡ LINE
-  pub bounded : Bounded (rowsOf line bits)
-  pub fits : at + 2 * length (queuedPlan RACKS (rowsOf line bits)) ≤ length log
+  pub bounded : Bounded (rowsOf ends line bits)
+  pub fits : at + 2 * length (queuedPlan RACKS (rowsOf ends line bits)) ≤ length log
 
 -- a phase planned: its pairs are written, every rack was visited, and the set is the same
-pub record PhasePlanned (line bits log : List ℕ) (at : ℕ) (line′ bits′ log′ : List ℕ) (count : ℕ) : Type 0 where
-  pub written : Written (queuedPlan RACKS (rowsOf line bits)) log at log′ count
-  pub passed : Passed RACKS (rowsOf line bits) (rowsOf line′ bits)
+pub record PhasePlanned (ends line bits log : List ℕ) (at : ℕ) (line′ bits′ log′ : List ℕ) (count : ℕ) : Type 0 where
+  pub written : PairsWritten (queuedPlan RACKS (rowsOf ends line bits)) log at log′ count
+  pub passed : RacksPassed RACKS (rowsOf ends line bits) (rowsOf ends line′ bits)
   pub long : length line′ ≡ LINE
   pub topped : Topped bits′
   pub same : (k : ℕ) → k < SLOTS → isOn bits′ k ≡ isOn bits k

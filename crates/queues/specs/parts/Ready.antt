@@ -25,6 +25,6 @@ pub record Ready (racks : List Rack) (places : List ℕ) (rows : Rows) : Type 0 
   pub others-full : (p : ℕ) → length racks ≤ p → p < RACKS → rows .rooms p ≡ 0
 
 -- the line and the words of a call at its start
-pub record Started (racks : List Rack) (places line bits : List ℕ) : Type 0 where
-  pub ready : Ready racks places (rowsOf line bits)
+pub record Started (racks : List Rack) (places ends line bits : List ℕ) : Type 0 where
+  pub ready : Ready racks places (rowsOf ends line bits)
   pub long : length line ≡ LINE

@@ -30,7 +30,7 @@ pub fn count_free(places: &[u16], low: usize, high: usize) -> u16
     free
 }
 
-// Rack p in the line, with its first slot and its free slots; its queue is empty.
+// Rack p, which begins at slot `low`, in the line, with its free slots; its queue is empty.
 fn place_rack(line: &mut [u16; line::LINE], p: usize, low: u16, rooms: u16)
     requires { ⌜ (length (now line) ≡ LINE) × (p < RACKS) × (low ≤ SLOTS) ⌝ }
     ensures { λ _. ⌜ now (line .exit) ≡ placed p low rooms (now (line .entry)) ⌝ }
@@ -39,7 +39,6 @@ fn place_rack(line: &mut [u16; line::LINE], p: usize, low: u16, rooms: u16)
     line[line::HEADS + p] = begins;
     line[line::TAILS + p] = begins;
     line[line::ROOMS + p] = rooms;
-    line[line::LOWS + p] = low;
 }
 
 // Every rack in the line.
@@ -110,7 +109,7 @@ pub fn queue_up(
     bits: &mut [u64; bits::parts::WORDS],
 )
     requires { ⌜ Open job (now places) (now racking) × Blank LINE (now line) × Blank WORDS (now bits) ⌝ }
-    ensures { λ _. ⌜ Started (racksOf job) (now (places .entry)) (now (line .exit)) (now (bits .exit)) ⌝ }
+    ensures { λ _. ⌜ Started (racksOf job) (now (places .entry)) (job .ends) (now (line .exit)) (now (bits .exit)) ⌝ }
 {
     place_racks(job, places, line);
     openings::find_free(places, bits);

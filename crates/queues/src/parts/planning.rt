@@ -10,6 +10,7 @@ ghost use Rattle.bits.specs.parts.Bits.{turnedOff, Topped};
 ghost use Rattle.queues.specs.parts.Line.{queueOf, HEADS, LINE};
 ghost use Rattle.queues.specs.parts.Queues.{rowsOf, served, sent, Visitable, Visited, Plannable, PhasePlanned, opens};
 use crate::parts::line;
+use racks::Job;
 
 // The smaller of two numbers.
 pub fn smaller(x: usize, y: usize) -> usize
@@ -55,21 +56,22 @@ fn plan_rack(
 // Visits rack p: writes the pairs of the cards that it takes from `at` on, and says how many they are. Its queue then begins behind them,
 // and it has so much less room.
 fn visit(
+    ends: &[u16; Job::MAX_RACKS],
     line: &mut [u16; line::LINE],
     p: usize,
     bits: &[u64; bits::parts::WORDS],
     log: &mut [u16],
     at: usize,
 ) -> usize
-    requires { ⌜ (length (now line) ≡ LINE) × (p < RACKS) × Topped (now bits) × Visitable (rowsOf (now line) (now bits)) p × (at + 2 * sent (rowsOf (now line) (now bits)) p ≤ length (now log)) ⌝ }
-    ensures { λ r. ⌜ Visited (now (line .entry)) (now (bits .entry)) p (now (log .entry)) at (now (line .exit)) (now (log .exit)) r ⌝ }
+    requires { ⌜ (length (now line) ≡ LINE) × (p < RACKS) × Topped (now bits) × Visitable (rowsOf (now ends) (now line) (now bits)) p × (at + 2 * sent (rowsOf (now ends) (now line) (now bits)) p ≤ length (now log)) ⌝ }
+    ensures { λ r. ⌜ Visited (now (ends .entry)) (now (line .entry)) (now (bits .entry)) p (now (log .entry)) at (now (line .exit)) (now (log .exit)) r ⌝ }
 {
     let head = line[line::HEADS + p] as usize;
     let waits = line[line::TAILS + p] as usize - head;
     let room = line[line::ROOMS + p] as usize;
     let made = smaller(room, waits);
     let end = head + made;
-    let low = line[line::LOWS + p] as usize;
+    let low = racks::parts::first_slot(ends, p) as usize;
     plan_rack(line, head, end, bits, low, log, at);
     line[line::HEADS + p] = end as u16;
     line[line::ROOMS + p] = (room - made) as u16;
@@ -90,20 +92,21 @@ fn stop_waiting(waiting: u64, p: usize, more: bool) -> u64
 // Plans a phase: its pairs from `at` on, by target rack, and how many they are. Only racks that wait are visited, each taken out of a word
 // of those still to be visited; a rack whose queue is used up waits no more.
 pub fn plan_phase(
+    ends: &[u16; Job::MAX_RACKS],
     line: &mut [u16; line::LINE],
     bits: &mut [u64; bits::parts::WORDS],
     log: &mut [u16],
     at: usize,
 ) -> usize
-    requires { ⌜ Plannable (now line) (now bits) (now log) at ⌝ }
-    ensures { λ r. ⌜ PhasePlanned (now (line .entry)) (now (bits .entry)) (now (log .entry)) at (now (line .exit)) (now (bits .exit)) (now (log .exit)) r ⌝ }
+    requires { ⌜ Plannable (now ends) (now line) (now bits) (now log) at ⌝ }
+    ensures { λ r. ⌜ PhasePlanned (now (ends .entry)) (now (line .entry)) (now (bits .entry)) (now (log .entry)) at (now (line .exit)) (now (bits .exit)) (now (log .exit)) r ⌝ }
 {
     let mut count: usize = 0;
     let mut waiting = bits[line::WAITING];
     let mut left = waiting;
     let mut p = bits::parts::next_on(left, 0);
     while p < 64 {
-        let made = visit(line, p, bits, log, at + 2 * count);
+        let made = visit(ends, line, p, bits, log, at + 2 * count);
         waiting = stop_waiting(waiting, p, line[line::HEADS + p] < line[line::TAILS + p]);
         left = bits::parts::turn_off(left, p);
         count = count + made;

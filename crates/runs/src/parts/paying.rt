@@ -15,7 +15,7 @@ fn cell_of(racking: &[u8; Job::MAX_SLOTS], from: u16, to: u16) -> usize
 {
     let i = racking[from as usize] as usize;
     let p = racking[to as usize] as usize;
-    i * 64 + p
+    i * Job::MAX_RACKS + p
 }
 
 // One count less at k.

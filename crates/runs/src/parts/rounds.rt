@@ -1,12 +1,13 @@
 // Phases until nothing is awaited.
 ghost use mathlib.Core.Path.{_≡_};
-ghost use Prim.Native.Nat.{_≤_};
-ghost use Rattle.racks.specs.Limits.{CELLS};
+ghost use Prim.Native.Nat.{_+_, _≤_, _<_};
+ghost use lib.ListN.{set};
+ghost use Rattle.racks.specs.Limits.{CELLS, SLOTS};
 ghost use Rattle.racks.specs.Job.{racksOf};
-ghost use Rattle.bits.specs.parts.Bits.{Next};
+ghost use Rattle.bits.specs.parts.Bits.{NextOn};
 ghost use Rattle.moves.specs.Moves.{held};
 ghost use Rattle.runs.specs.parts.Kept.{owing};
-ghost use Rattle.runs.specs.parts.Gathered.{ENDS, LOG, Rounding, RoundMade, Set, PhasesMade};
+ghost use Rattle.runs.specs.parts.Gathered.{ENDS, LOG, Closable, RoundClosed, Set, PhasesMade};
 use crate::parts::paying;
 use answers::Tally;
 use queues::parts::line;
@@ -15,7 +16,7 @@ use racks::Job;
 // Where in a run's log the moves made up to each phase's end stand, behind all pairs.
 pub const ENDS: usize = 8192;
 
-// How many numbers a run's log has.
+// How many numbers a run's log has where it is to be listed: all pairs and all ends.
 pub const LOG: usize = 12288;
 
 // The places of the code are those of the definitions.
@@ -28,7 +29,7 @@ pub fn log_agrees()
 // at each cell once.
 fn next_awaited(awaits: &[u16; Job::CELLS], cell: usize, cells: usize) -> usize
     requires { ⌜ (cell ≤ cells) × (cells ≤ CELLS) ⌝ }
-    ensures { λ r. ⌜ Next (owing (now (awaits .entry))) cell cells r ⌝ }
+    ensures { λ r. ⌜ NextOn (owing (now (awaits .entry))) cell cells r ⌝ }
 {
     let mut k = cell;
     while k < cells {
@@ -40,38 +41,34 @@ fn next_awaited(awaits: &[u16; Job::CELLS], cell: usize, cells: usize) -> usize
     cells
 }
 
-// One phase of a run: carried whole, paid for in both tables, and its end noted in the log; gives the tally with it.
-fn run_round(
-    b: usize,
-    tally: Tally,
-    places: &mut [u16],
-    cards: &mut [u8],
+// The moves made up to the end of phase j, noted where the log has room for it: none but a listing reads the ends.
+fn note_end(log: &mut [u16], j: usize, moves: usize)
+    requires { ⌜ (j < SLOTS) × (moves ≤ SLOTS) ⌝ }
+    ensures { λ _. ⌜ now (log .exit) ≡ set (now (log .entry)) (ENDS + j) moves ⌝ }
+{
+    let k = ENDS + j;
+    if k < log.len() {
+        log[k] = moves as u16;
+    }
+}
+
+// Closes a phase: the moves made since the tally before it are paid for in both tables, and its end is noted in the log; gives the tally with one
+// phase more.
+fn close_round(
+    before: Tally,
+    made: Tally,
     racking: &[u8; Job::MAX_SLOTS],
-    line: &mut [u16; line::LINE],
-    bits: &mut [u64; bits::parts::WORDS],
     log: &mut [u16],
     owes: &mut [u16; Job::CELLS],
     awaits: &mut [u16; Job::CELLS],
 ) -> Tally
-    requires { ⌜ Rounding b tally (held (now places) (now cards)) (now racking) (now line) (now bits) (now log) (now owes) (now awaits) ⌝ }
-    ensures { λ r. ⌜ RoundMade b tally (held (now (places .entry)) (now (cards .entry))) (now (racking .entry)) (now (line .entry)) (now (bits .entry)) (now (log .entry)) (now (owes .entry)) (now (awaits .entry)) r (held (now (places .exit)) (now (cards .exit))) (now (line .exit)) (now (bits .exit)) (now (log .exit)) (now (owes .exit)) (now (awaits .exit)) ⌝ }
+    requires { ⌜ Closable before made (now racking) (now log) (now owes) (now awaits) ⌝ }
+    ensures { λ r. ⌜ RoundClosed before made (now (racking .entry)) (now (log .entry)) (now (owes .entry)) (now (awaits .entry)) r (now (log .exit)) (now (owes .exit)) (now (awaits .exit)) ⌝ }
 {
-    let low = 2 * tally.moves;
-    let j = tally.phases;
-    let made = budgets::parts::run_phase(
-        b,
-        Job::MAX_SLOTS,
-        tally,
-        places,
-        cards,
-        racking,
-        line,
-        bits,
-        log,
-    );
+    let low = 2 * before.moves;
     let high = 2 * made.moves;
     paying::pay_moves(log, low, high, racking, owes, awaits);
-    log[ENDS + j] = made.moves as u16;
+    note_end(log, before.phases, made.moves);
     made.add_phase()
 }
 
@@ -91,12 +88,14 @@ pub fn run_phases(
     requires { ⌜ Set job b (held (now places) (now cards)) (now racking) (now line) (now bits) (now log) (now owes) (now awaits) ⌝ }
     ensures { λ r. ⌜ PhasesMade (racksOf job) b (held (now (places .entry)) (now (cards .entry))) (held (now (places .exit)) (now (cards .exit))) r (now (log .exit)) ⌝ }
 {
-    let cells = job.racks * 64;
+    let cells = job.racks * Job::MAX_RACKS;
     let mut tally = Tally::none();
     let mut cell = next_awaited(awaits, 0, cells);
     while cell < cells {
-        tally = run_round(
+        let made = budgets::parts::run_phase(
+            &job.ends,
             b,
+            Job::MAX_SLOTS,
             tally,
             places,
             cards,
@@ -104,9 +103,8 @@ pub fn run_phases(
             line,
             bits,
             log,
-            owes,
-            awaits,
         );
+        tally = close_round(tally, made, racking, log, owes, awaits);
         cell = next_awaited(awaits, cell, cells);
     }
     tally

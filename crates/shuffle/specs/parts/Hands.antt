@@ -7,22 +7,18 @@ use lib.Dec.{eqb}
 use lib.ListN.{length, getD, take, set}
 use Rattle.counting.specs.Tests.{pick, bit}
 use Rattle.counting.specs.Lists.{Pair, tabulate, join}
-use Rattle.racks.specs.Limits.{FREE, BYTES, SLOTS}
+use Rattle.racks.specs.Limits.{FREE, BYTES, SOURCES}
 use Rattle.moves.specs.Blocks.{block, putBlock, blank}
 use Rattle.answers.specs.Answers.{plusCopies}
 use Rattle.answers.specs.declared.Tally.{Tally}
 use Rattle.factors.specs.Copies.{source, copies, copyList}
-use Rattle.factors.specs.parts.Walks.{walked, walkCount}
+use Rattle.factors.specs.parts.Walks.{COUNTED, walked, walkCount}
 use Rattle.copies.specs.parts.Writes.{due, Counted}
-use Rattle.shuffle.specs.Shuffle.{Hands, taken, laid, runCopies, brought, lastEntry, lastCard}
+use Rattle.shuffle.specs.Shuffle.{Hands, runCopies, brought, lastEntry, lastCard}
 
 -- the cards, and the card in the first b bytes of the library's hand
 unfoldable pub handed : ℕ → List ℕ → List ℕ → Hands
 handed b cards hand = record { cards = cards; hand = take b hand }
-
--- after one copy
-unfoldable pub copyMade : ℕ → ℕ → ℕ → Hands → Hands
-copyMade b from to h = laid b to (taken b from h) h
 
 -- the cards after copies from slot to slot, each in turn
 unfoldable pub slid : ℕ → List Pair → List ℕ → List ℕ
@@ -42,8 +38,8 @@ pub record WalkBrought (b : ℕ) (places : List ℕ) (head left end : ℕ) (card
 
 -- the copies due at slot k are made and counted, its slots marked
 pub record SlotBrought (b : ℕ) (places : List ℕ) (k : ℕ) (seen cards hand : List ℕ) (count : ℕ) (marks cards′ hand′ : List ℕ) : Type 0 where
-  pub counted : Counted places 1 k 0 seen count marks
-  pub brings : HandedAs b cards′ hand′ (runCopies b (copies places (due places 1 seen k)) (handed b cards hand))
+  pub counted : Counted places COUNTED k 0 seen count marks
+  pub brings : HandedAs b cards′ hand′ (runCopies b (copies places (due places COUNTED seen k)) (handed b cards hand))
   pub size : length cards′ ≡ length cards
 
 -- all copies are made, and added to the tally
@@ -67,7 +63,7 @@ pub record FreeListed (places : List ℕ) (d : ℕ) (frees : List ℕ) (n : ℕ)
   pub hits : (i : ℕ) → i < n → (getD frees i 0 < d) × (source places (getD frees i 0) ≡ FREE)
   pub all : (g : ℕ) → g < d → source places g ≡ FREE → (i : ℕ) × (i < n) × (getD frees i 0 ≡ g)
   pub few : n ≤ d
-  pub long : length frees ≡ SLOTS
+  pub long : SOURCES ≤ length frees
 
 -- the new table, and the free slots
 pub record TableSettled (places places′ frees : List ℕ) (n : ℕ) : Type 0 where

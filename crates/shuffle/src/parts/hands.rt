@@ -7,9 +7,10 @@ ghost use Rattle.racks.specs.Limits.{FREE, BYTES, COPIES, SLOTS};
 ghost use Rattle.moves.specs.Blocks.{block, putBlock};
 ghost use Rattle.factors.specs.Copies.{next, shift, copies};
 ghost use Rattle.factors.specs.parts.Chains.{Chained};
-ghost use Rattle.factors.specs.parts.Walks.{Sources, steps, Inside, walkCount};
+ghost use Rattle.factors.specs.parts.Walks.{COUNTED, Sources, steps, Inside, walkCount};
 ghost use Rattle.copies.specs.parts.Writes.{due};
 ghost use Rattle.shuffle.specs.parts.Hands.{slid, WalkBrought, SlotBrought};
+use factors::parts::walks;
 use racks::Job;
 
 // The card in slot `from` goes to the hand.
@@ -71,19 +72,19 @@ pub fn bring_walk(
 // The cards of the factor of slot k, unless it is marked; how many copies were made.
 pub fn bring_slot(
     places: &[u16],
-    sources: &[u16; Job::SOURCES],
+    sources: &[u16],
     seen: &mut [u8; Job::MAX_SLOTS],
     cards: &mut [u8],
     hand: &mut [u8; Job::MAX_BYTES],
     b: usize,
     k: usize,
 ) -> usize
-    requires { ⌜ Chained (now places) × Sources (now places) (now sources) × (k < length (now places)) × (length (now seen) ≡ SLOTS) × (length (copies (now places) (due (now places) 1 (now seen) k)) ≤ COPIES) × (b ≤ BYTES) × (length (now cards) ≡ length (now places) * b) × (length (now hand) ≡ BYTES) ⌝ }
+    requires { ⌜ Chained (now places) × Sources (now places) (now sources) × (k < length (now places)) × (length (now seen) ≡ SLOTS) × (length (copies (now places) (due (now places) COUNTED (now seen) k)) ≤ COPIES) × (b ≤ BYTES) × (length (now cards) ≡ length (now places) * b) × (length (now hand) ≡ BYTES) ⌝ }
     ensures { λ r. ⌜ SlotBrought b (now (places .entry)) k (now (seen .entry)) (now (cards .entry)) (now (hand .entry)) r (now (seen .exit)) (now (cards .exit)) (now (hand .exit)) ⌝ }
 {
-    if seen[k] == 1 {
+    if seen[k] == walks::COUNTED {
         return 0;
     }
-    let w = factors::parts::walks::walk_factor(places, sources, seen, 1, k);
+    let w = walks::walk_factor(places, sources, seen, walks::COUNTED, k);
     bring_walk(places, cards, hand, b, w.head, w.left, w.end)
 }

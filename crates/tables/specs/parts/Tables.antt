@@ -33,8 +33,13 @@ awayBy racking places g = not (eqb (getD racking g 0) (target racking places g))
 abbrev pub Filled : List Rack → List ℕ → Type 0
 Filled racks racking = (g : ℕ) → g < slots racks → getD racking g 0 ≡ rackOf racks g
 
+-- the racking as it is filled: each slot's rack, in a list for all slots
+pub record Racked (racks : List Rack) (racking : List ℕ) : Type 0 where
+  pub filled : Filled racks racking
+  pub long : length racking ≡ SLOTS
+
 -- the list has 1 at each user slot and 0 elsewhere
-pub record Marked (racks : List Rack) (list : List ℕ) : Type 0 where
+pub record UsersMarked (racks : List Rack) (list : List ℕ) : Type 0 where
   pub marks : (g : ℕ) → g < SLOTS → getD list g 0 ≡ bit (isUser racks g)
   pub long : length list ≡ SLOTS
 
@@ -45,11 +50,12 @@ pub record Between (low high value : ℕ) (before after : List ℕ) : Type 0 whe
   pub above : (g : ℕ) → high ≤ g → low ≤ g → getD after g 0 ≡ getD before g 0
   pub long : length after ≡ length before
 
--- what acceptance gives: a sound job, a legal table, and each slot's rack
+-- what acceptance gives: a sound job, a legal table, and each slot's rack in a list for all slots
 pub record Open (job : Job) (places racking : List ℕ) : Type 0 where
   pub sound : Sound job
   pub legal : Legal (racksOf job) places
   pub filled : Filled (racksOf job) racking
+  pub long : length racking ≡ SLOTS
 
 -- and with cards: they are S·B bytes, and B is not too large
 pub record OpenCards (job : Job) (b : ℕ) (places cards racking : List ℕ) : Type 0 where

@@ -5,7 +5,7 @@ use Rattle.budgets.proofs.parts.move_cards.Statement.{statement}
 use Rattle.budgets.proofs.parts.move_cards.Tie as tie
 
 queue-up-requires : tie.Need-queue-up-requires
-queue-up-requires c κs = let s = c .before .before .before .before .before in (s .pre .0, blank-zeros 4416, blank-zeros 66)
+queue-up-requires c κs = let s = c .before .before .before .before .before in (s .pre .0, blank-zeros 4352, blank-zeros 66)
 
 slice-aggregate-run-moves : tie.Need-slice-aggregate-run-moves
 slice-aggregate-run-moves c = search needs

@@ -27,13 +27,13 @@ carry-requires : tie.Need-carry-requires
 carry-requires c κs = let s = c .before .before .before .before .before .before .before .before .before .before .before .before .before .before .before in
     let m = c .before .before .before .smaller .ensures in
     let p = c .before .before .before .before .before .before .before .plan-phase .ensures in
-    (s .pre .sized, ((omega arith, made-fits (s .args .b) (s .args .k) (s .args .tally) (held (s .args .places .now) (s .args .cards .now)) (s .args .racking .now) (s .args .line .now) (s .args .bits .now) (s .args .log .now) _ _ _ _ _ (s .pre) p m), (made-slots (s .args .b) (s .args .k) (s .args .tally) (held (s .args .places .now) (s .args .cards .now)) (s .args .racking .now) (s .args .line .now) (s .args .bits .now) (s .args .log .now) _ _ _ _ _ (s .pre) p m, made-counted (s .args .b) (s .args .k) (s .args .tally) (held (s .args .places .now) (s .args .cards .now)) (s .args .racking .now) (s .args .line .now) (s .args .bits .now) (s .args .log .now) _ _ _ _ _ (s .pre) p m)))
+    (s .pre .sized, ((omega arith, made-fits (s .args .ends .now) (s .args .b) (s .args .k) (s .args .tally) (held (s .args .places .now) (s .args .cards .now)) (s .args .racking .now) (s .args .line .now) (s .args .bits .now) (s .args .log .now) _ _ _ _ _ (s .pre) p m), (made-slots (s .args .ends .now) (s .args .b) (s .args .k) (s .args .tally) (held (s .args .places .now) (s .args .cards .now)) (s .args .racking .now) (s .args .line .now) (s .args .bits .now) (s .args .log .now) _ _ _ _ _ (s .pre) p m, made-counted (s .args .ends .now) (s .args .b) (s .args .k) (s .args .tally) (held (s .args .places .now) (s .args .cards .now)) (s .args .racking .now) (s .args .line .now) (s .args .bits .now) (s .args .log .now) _ _ _ _ _ (s .pre) p m)))
 
 note-moves-requires : tie.Need-note-moves-requires
 note-moves-requires c κs = let s = c .before .before .before .before .before .before .before .before .before .before .before .before .before .before .before .before .before .before .before .before .before .before .before in
     let m = c .before .before .before .before .before .before .before .before .before .before .before .smaller .ensures in
     let p = c .before .before .before .before .before .before .before .before .before .before .before .before .before .before .before .plan-phase .ensures in
-    (omega arith, made-fits (s .args .b) (s .args .k) (s .args .tally) (held (s .args .places .now) (s .args .cards .now)) (s .args .racking .now) (s .args .line .now) (s .args .bits .now) (s .args .log .now) _ _ _ _ _ (s .pre) p m, made-notable (s .args .b) (s .args .k) (s .args .tally) (held (s .args .places .now) (s .args .cards .now)) (s .args .racking .now) (s .args .line .now) (s .args .bits .now) (s .args .log .now) _ _ _ _ _ (s .pre) p m)
+    (omega arith, made-fits (s .args .ends .now) (s .args .b) (s .args .k) (s .args .tally) (held (s .args .places .now) (s .args .cards .now)) (s .args .racking .now) (s .args .line .now) (s .args .bits .now) (s .args .log .now) _ _ _ _ _ (s .pre) p m, made-notable (s .args .ends .now) (s .args .b) (s .args .k) (s .args .tally) (held (s .args .places .now) (s .args .cards .now)) (s .args .racking .now) (s .args .line .now) (s .args .bits .now) (s .args .log .now) _ _ _ _ _ (s .pre) p m)
 
 same-length : tie.Need-same-length
 same-length c = search needs
@@ -48,7 +48,7 @@ returns : tie.Need-returns
 returns c = let s = c .before .before .before .before .before .before .before .before .before .before .before .before .before .before .before .before .before .before .before .before .before .before .before .before in
     let m = c .before .before .before .before .before .before .before .before .before .before .before .before .smaller .ensures in
     let p = c .before .before .before .before .before .before .before .before .before .before .before .before .before .before .before .before .plan-phase .ensures in
-    phase-run (s .args .b) (s .args .k) (s .args .tally) (held (s .args .places .now) (s .args .cards .now)) (s .args .racking .now) (s .args .line .now) (s .args .bits .now) (s .args .log .now) _ _ _ _ _ (s .pre) p m (c .before .before .before .before .before .before .before .before .carry .ensures) (c .note-moves .ensures)
+    phase-run (s .args .ends .now) (s .args .b) (s .args .k) (s .args .tally) (held (s .args .places .now) (s .args .cards .now)) (s .args .racking .now) (s .args .line .now) (s .args .bits .now) (s .args .log .now) _ _ _ _ _ (s .pre) p m (c .before .before .before .before .before .before .before .before .carry .ensures) (c .note-moves .ensures)
 
 pub run-phase-spec : {M : Type 1} → statement M
 run-phase-spec =

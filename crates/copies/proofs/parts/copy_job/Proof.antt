@@ -1,4 +1,4 @@
-use mathlib.Core.Path.{_≡_, sym, _∙_}
+use mathlib.Core.Path.{_≡_, refl, sym, _∙_}
 use lib.ListN.{length}
 use Rattle.counting.specs.Lists.{flat}
 use Rattle.answers.specs.Answers.{copiesOf}
@@ -7,6 +7,7 @@ use Rattle.racks.specs.Numbers.{someAway}
 use Rattle.racks.specs.Job.{racksOf}
 use Rattle.tables.specs.parts.Tables.{Open, tableNumber}
 use Rattle.factors.specs.Copies.{copyList}
+use Rattle.factors.proofs.Marks.{racking-counted, racking-listed}
 use Rattle.copies.specs.parts.Writes.{copyNumber, copiedBy}
 use Rattle.copies.proofs.Accepted.{open-chained, open-away}
 use Rattle.copies.proofs.Copied.{copied-table, copied-away, copied-home}
@@ -57,17 +58,19 @@ returns-2 c =
     (copied-away (s .job) p (s .lent .now) (none e) (sym (away (c .before .before)) ∙ c .before .if2 .taken)) (λ z. omega arith)
 
 list-counted-requires : tie.Need-list-counted-requires
-list-counted-requires c κs = open-chained (opened (c .before .before .before .before))
+list-counted-requires c κs =
+    let o = opened (c .before .before .before .before .before) in
+    (open-chained o, racking-counted o _ refl, racking-listed o _ refl)
 
 same-length : tie.Need-same-length
 same-length c = search needs
 
 returns-3 : tie.Need-returns-3
 returns-3 c =
-    let e = c .before .before .before .before .before .before .before in
+    let e = c .before .before .before .before .before .before .before .before in
     let s = e .before .before .before .before .before .args in
     c .before .before .list-counted .ensures
-    ∙ copied-home (s .job) (s .places .now) (s .lent .now) (none e) (sym (away (c .before .before .before .before .before)) ∙ c .before .before .before .before .if2 .left)
+    ∙ copied-home (s .job) (s .places .now) (s .lent .now) (none e) (sym (away (c .before .before .before .before .before .before)) ∙ c .before .before .before .before .before .if2 .left)
 
 pub copy-job-spec : {M : Type 1} → statement M
 copy-job-spec =

@@ -3,7 +3,7 @@ use mathlib.Core.Path.{sym, ap, _∙_}
 use native.Mathlib.Omega.{arith}
 use borrow.Author.Needs.{needs}
 use Rattle.jobfile.specs.Answers.{gotOf}
-use Rattle.jobfile.specs.parts.Parsing.{between, outside}
+use Rattle.jobfile.specs.parts.Parsing.{ranged, outside}
 use Rattle.jobfile.proofs.Numerals.{checked-form, checked-value, checked-bad, outside-low, outside-high, outside-none}
 use Rattle.jobfile.proofs.parts.bounded_numeral.Statement.{statement}
 use Rattle.jobfile.proofs.parts.bounded_numeral.Tie as tie
@@ -18,14 +18,14 @@ enum-told : tie.Need-enum-told
 enum-told c = search needs
 
 returns : tie.Need-returns
-unfolding gotOf between
+unfolding gotOf ranged
 returns c =
     let s = c .before .before .before .before in
     let e = ap gotOf (c .enum-told .given .1) in
     e ∙ checked-form (s .args .file .now) (s .args .at) (outside (s .args .low) (s .args .high) (s .args .n)) _ (sym e ∙ c .before .before .next-numeral .ensures)
 
 returns-2 : tie.Need-returns-2
-unfolding gotOf between
+unfolding gotOf ranged
 returns-2 c =
     let s = c .before .before .before .before .before .before in
     let g = c .before .before .got in
@@ -33,7 +33,7 @@ returns-2 c =
     (sym (ap gotOf (g .given .1)) ∙ c .before .before .before .before .next-numeral .ensures) (outside-low (s .args .low) (s .args .high) (s .args .n) (g .given .0 .0) (c .if1 .taken)) (λ z. omega (arith, s .pre))
 
 returns-3 : tie.Need-returns-3
-unfolding gotOf between
+unfolding gotOf ranged
 returns-3 c =
     let s = c .before .before .before .before .before .before .before in
     let g = c .before .before .before .got in
@@ -41,7 +41,7 @@ returns-3 c =
     (sym (ap gotOf (g .given .1)) ∙ c .before .before .before .before .before .next-numeral .ensures) (outside-high (s .args .low) (s .args .high) (s .args .n) (g .given .0 .0) (c .if2 .taken)) (λ z. omega (arith, s .pre))
 
 returns-4 : tie.Need-returns-4
-unfolding gotOf between
+unfolding gotOf ranged
 returns-4 c =
     let s = c .before .before .before .before .before .before .before in
     let g = c .before .before .before .got in

@@ -3,7 +3,7 @@ use mathlib.Core.Path.{_≡_, ap, _∙_}
 use Prim.Native.Nat.{_+_, _-_, _≤_}
 use native.Mathlib.Omega.{arith}
 use borrow.Author.Needs.{needs}
-use Rattle.jobfile.specs.parts.Parsing.{between, room}
+use Rattle.jobfile.specs.parts.Parsing.{ranged, roomFor}
 use Rattle.jobfile.specs.Answers.{gotOf}
 use Rattle.jobfile.proofs.Numerals.{got, value-got, refused-got}
 use Rattle.jobfile.proofs.Capacities.{size-total, Capping, capping-none, capping-more, capping-stop, capping-done, cap-small}
@@ -18,14 +18,14 @@ abbrev μ-loop : tie.MeasureT-loop
 
 -- the numeral read, with its limit
 limit : (c : tie.After-bounded-numeral Inv-loop μ-loop)
-    → gotOf (c .bounded-numeral .result) ≡ between 0 (room (c .before .before .before .loop .total)) 3 (c .before .before .before .before .before .args .file .now) (c .before .before .before .loop .place)
+    → gotOf (c .bounded-numeral .result) ≡ ranged 0 (roomFor (c .before .before .before .loop .total)) 3 (c .before .before .before .before .before .args .file .now) (c .before .before .before .loop .place)
 limit c =
     let l = c .before .before .before in
-    c .bounded-numeral .ensures ∙ ap (λ h. between 0 h 3 (l .before .before .args .file .now) (l .loop .place)) (c .before .room-for .ensures)
+    c .bounded-numeral .ensures ∙ ap (λ h. ranged 0 h 3 (l .before .before .args .file .now) (l .loop .place)) (c .before .room-for .ensures)
 
 -- the capacity read
 capacity : (c : tie.After-known-told Inv-loop μ-loop)
-    → got (c .before .got .given .0 .0) (c .before .got .given .0 .1 .0) ≡ between 0 (room (c .before .before .before .before .before .before .loop .total)) 3 (c .before .before .before .before .before .before .before .before .args .file .now) (c .before .before .before .before .before .before .loop .place)
+    → got (c .before .got .given .0 .0) (c .before .got .given .0 .1 .0) ≡ ranged 0 (roomFor (c .before .before .before .before .before .before .loop .total)) 3 (c .before .before .before .before .before .before .before .before .args .file .now) (c .before .before .before .before .before .before .loop .place)
 capacity c = value-got _ _ _ _ (c .before .got .given .1) (limit (c .before .before .before))
 
 small : (c : tie.After-known-told Inv-loop μ-loop) → (c .before .got .given .0 .0 ≤ 1023) × (c .before .before .before .before .before .before .loop .total + c .before .got .given .0 .0 ≤ 4032)

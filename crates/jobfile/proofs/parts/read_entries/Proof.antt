@@ -6,7 +6,7 @@ use borrow.Author.Needs.{needs}
 use Rattle.racks.specs.Racks.{slots}
 use Rattle.racks.specs.Job.{racksOf}
 use Rattle.racks.proofs.Jobs.{sound-slots}
-use Rattle.jobfile.specs.parts.Parsing.{between}
+use Rattle.jobfile.specs.parts.Parsing.{ranged}
 use Rattle.jobfile.proofs.Numerals.{got, value-got, refused-got}
 use Rattle.jobfile.proofs.Entries.{Entering, entering-none, entering-stop, entering-5, entering-more, entering-done, entry-small}
 use Rattle.jobfile.proofs.parts.read_entries.Statement.{statement}
@@ -23,7 +23,7 @@ below : (c : tie.Then1 Inv-loop μ-loop) → c .before .before .loop .g < slots 
 below c = omega (arith, sound-slots _ (c .before .before .before .before .pre .0))
 
 -- the entry that is read
-entry : (c : tie.After-known-told Inv-loop μ-loop) → got (c .before .got .given .0 .0) (c .before .got .given .0 .1 .0) ≡ between 0 4096 5 (c .before .before .before .before .before .before .before .before .args .file .now) (c .before .before .before .before .before .before .loop .place)
+entry : (c : tie.After-known-told Inv-loop μ-loop) → got (c .before .got .given .0 .0) (c .before .got .given .0 .1 .0) ≡ ranged 0 4096 5 (c .before .before .before .before .before .before .before .before .args .file .now) (c .before .before .before .before .before .before .loop .place)
 entry c = value-got _ _ _ _ (c .before .got .given .1) (c .before .before .before .bounded-numeral .ensures)
 
 loop-holds : tie.Need-loop-holds Inv-loop μ-loop

@@ -1,4 +1,3 @@
-use native.Mathlib.Omega.{arith}
 use borrow.Author.Needs.{needs}
 use mathlib.Core.Path.{refl}
 use Rattle.queues.proofs.Line.{blank-zeros}
@@ -9,15 +8,14 @@ count-owed-requires : tie.Need-count-owed-requires
 count-owed-requires c κs = (c .before .before .before .before .before .pre .0, blank-zeros 4096)
 
 queue-up-requires : tie.Need-queue-up-requires
-queue-up-requires c κs = (c .before .before .before .before .before .before .before .before .before .pre .0, blank-zeros 4416, blank-zeros 66)
+queue-up-requires c κs = (c .before .before .before .before .before .before .before .before .before .pre .0, blank-zeros 4352, blank-zeros 66)
 
 run-phases-requires : tie.Need-run-phases-requires
 run-phases-requires c κs = let s = c .before .before .before .before .before .before .before .before .before .before .before .before .before .before .before .before .before in
     record {
-      going = record { opened = s .pre .0; spared = s .pre .1; started = c .before .before .before .before .before .before .before .queue-up .ensures; cards-long = s .pre .2; room = omega (arith, s .pre .3) };
+      going = record { opened = s .pre .0; spared = s .pre .1; started = c .before .before .before .before .before .before .before .queue-up .ensures; cards-long = s .pre .2; room = s .pre .3 };
       owed = c .before .before .before .before .before .before .before .before .before .before .before .count-owed .ensures;
       agree = refl;
-      log-long = s .pre .3;
     }
 
 same-length : tie.Need-same-length

@@ -13,11 +13,11 @@ abbrev μ-loop : tie.MeasureT-loop
 μ-loop places sources seen₀ cards₀ hand₀ b sum₀ k₀ seen cards hand sum k = length places - k
 
 loop-holds : tie.Need-loop-holds Inv-loop μ-loop
-loop-holds c = (omega arith, bringing-start _ _ _ _ _ _ (c .before .before .pre .5))
+loop-holds c = (omega arith, bringing-start _ _ _ _ _ _ (c .before .before .before .pre .5))
 
 bring-slot-requires : tie.Need-bring-slot-requires Inv-loop μ-loop
 bring-slot-requires c κs =
-    let s = c .before .before .before .before .before .before .before in
+    let s = c .before .before .before .before .before .before .before .before in
     let l = c .before .before .before .before .loop in (
       s .pre .0,
       s .pre .1,
@@ -31,7 +31,7 @@ bring-slot-requires c κs =
 
 add-copies-requires : tie.Need-add-copies-requires Inv-loop μ-loop
 add-copies-requires c κs =
-    let s = c .before .before .before .before .before .before .before .before .before .before in
+    let s = c .before .before .before .before .before .before .before .before .before .before .before in
     let l = c .before .before .before .before .before .before .before .loop in
     bringing-room _ _ (l .k) _ _ _ _ _ _ _ _ (l .inv .1) (s .pre .0) (s .pre .2) (omega arith) (s .pre .6) _ (c .before .before .bring-slot .ensures .counted .count-is)
 
@@ -43,7 +43,7 @@ loop-less c = omega arith
 
 loop-again : tie.Need-loop-again Inv-loop μ-loop
 loop-again c =
-    let s = c .before .before .before .before .before .before .before .before .before .before .before in
+    let s = c .before .before .before .before .before .before .before .before .before .before .before .before in
     let l = c .before .before .before .before .before .before .before .before .loop in
     (omega arith, bringing-more _ _ (l .k) _ _ _ _ _ _ _ _ (l .inv .1) (s .pre .0) (s .pre .2) (omega arith) _ _ _ _ _ (c .before .before .before .bring-slot .ensures) (c .add-copies .ensures))
 

@@ -20,8 +20,8 @@ cast-frees c = search needs
 mul-frees : tie.Need-mul-frees
 mul-frees c = search needs
 
-element-write-frees : tie.Need-element-write-frees
-element-write-frees c = search needs
+slice-write-frees : tie.Need-slice-write-frees
+slice-write-frees c = search needs
 
 one-if-requires : tie.Need-one-if-requires
 one-if-requires c κs = search needs
@@ -35,9 +35,12 @@ add-result c = search needs
 same-length : tie.Need-same-length
 same-length c = search needs
 
+same-length-2 : tie.Need-same-length-2
+same-length-2 c = search needs
+
 returns : tie.Need-returns
 returns c =
-    let s = c .before .before .before in
+    let s = c .before .before .before .before in
     record { entry = ap (set (s .args .places .now) (s .args .d)) (c .before .entry-by .ensures); slot = refl; count-is = ap (λ (m : ℕ). s .args .n + m) (c .one-if .ensures) }
 
 pub settle-slot-spec : {M : Type 1} → statement M
@@ -49,9 +52,10 @@ settle-slot-spec =
     slice-write-places
     cast-frees
     mul-frees
-    element-write-frees
+    slice-write-frees
     one-if-requires
     cast-result
     add-result
     same-length
+    same-length-2
     returns)

@@ -11,9 +11,9 @@ settle-table-requires c κs = search needs
 
 zero-slots-requires : tie.Need-zero-slots-requires
 zero-slots-requires c κs =
-    let s = c .before .before .before .before .before .before .before .before .before in
-    let t = c .before .before .before .before .settle-table .ensures in
-    (listed-low _ _ _ t, omega (arith, t .listed .few, s .pre .0 .small), s .pre .2 ∙ ap (λ (m : ℕ). m * s .args .b) (sym (t .size)))
+    let s = c .before .before .before .before .before .before .before .before .before .before .before .before in
+    let t = c .before .before .before .before .before .before .settle-table .ensures in
+    (listed-low _ _ _ t, omega (arith, t .listed .few, t .listed .long, s .pre .0 .small), s .pre .2 ∙ ap (λ (m : ℕ). m * s .args .b) (sym (t .size)))
 
 same-length : tie.Need-same-length
 same-length c = search needs
@@ -21,12 +21,21 @@ same-length c = search needs
 same-length-2 : tie.Need-same-length-2
 same-length-2 c = search needs
 
+same-length-3 : tie.Need-same-length-3
+same-length-3 c = search needs
+
 returns : tie.Need-returns
 returns c =
-    let s = c .before .before .before .before .before .before .before .before .before .before .before .before in
-    all-settled (s .args .b) (s .args .cards .now) (s .pre .0) (s .pre .2) _ _ _ _ (c .before .before .before .before .before .before .before .settle-table .ensures) (c .before .before .zero-slots .ensures)
+    let s = c .before .before .before .before .before .before .before .before .before .before .before .before .before .before .before in
+    all-settled (s .args .b) (s .args .cards .now) (s .pre .0) (s .pre .2) _ _ _ _ (c .before .before .before .before .before .before .before .before .before .settle-table .ensures) (c .before .before .zero-slots .ensures)
 
 pub settle-slots-spec : {M : Type 1} → statement M
 settle-slots-spec =
     tie.close
-    (tie.spec settle-table-requires zero-slots-requires same-length same-length-2 returns)
+    (tie.spec
+    settle-table-requires
+    zero-slots-requires
+    same-length
+    same-length-2
+    same-length-3
+    returns)

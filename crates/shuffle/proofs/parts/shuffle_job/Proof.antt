@@ -1,4 +1,4 @@
-use mathlib.Core.Path.{_≡_, sym, ap, _∙_}
+use mathlib.Core.Path.{_≡_, refl, sym, ap, _∙_}
 use Prim.Native.Nat.{ℕ, _*_}
 use native.Mathlib.Omega.{arith}
 use native.Mathlib.Nat.{zero-add}
@@ -11,6 +11,8 @@ use Rattle.tables.specs.parts.Tables.{OpenCards, cardsNumber}
 use Rattle.moves.specs.Moves.{held}
 use Rattle.moves.proofs.Outcomes.{outcome-refused, outcome-done}
 use Rattle.factors.specs.Copies.{copyList}
+use Rattle.factors.proofs.Marks.{racking-counted}
+use Rattle.factors.proofs.Sourced.{made-none}
 use Rattle.copies.proofs.Accepted.{open-chained, open-away}
 use Rattle.shuffle.specs.Shuffle.{settledHeld}
 use Rattle.shuffle.specs.parts.Shuffled.{shuffleNumber, shuffledBy}
@@ -75,11 +77,15 @@ returns-2 c =
 none-requires : tie.Need-none-requires
 none-requires c κs = search needs
 
+slice-aggregate-settle : tie.Need-slice-aggregate-settle
+slice-aggregate-settle c = search needs
+
 settle-requires : tie.Need-settle-requires
 settle-requires c κs =
-    let o = opened (c .before .before .before .before .before .before .before) in
-    let b = c .before .before .before .before .before .before .before .before .before .before .before .before .before .before .args .b in
-    (open-chained (o .table), o .bytes, o .long ∙ ap (λ (n : ℕ). n * b) (sym (o .table .legal .long)), ap (λ (t : Tally). t .copies) (c .before .before .none .ensures))
+    let o = opened (c .before .before .before .before .before .before .before .before .before) in
+    let b = c .before .before .before .before .before .before .before .before .before .before .before .before .before .before .before .before .args .b in
+    let ok = open-chained (o .table) in
+    (ok, racking-counted (o .table) _ refl, made-none _ (ok .small) _ refl, o .bytes, o .long ∙ ap (λ (n : ℕ). n * b) (sym (o .table .legal .long)), ap (λ (t : Tally). t .copies) (c .before .before .before .before .none .ensures))
 
 done-requires : tie.Need-done-requires
 done-requires c κs = search needs
@@ -93,14 +99,14 @@ same-length-6 c = search needs
 returns-3 : tie.Need-returns-3
 unfolding shuffledBy
 returns-3 c =
-    let e = c .before .before .before .before .before .before .before .before .before .before .before .before .before in
-    let s = c .before .before .before .before .before .before .before .before .before .before .before .before .before .before .before .before .before .before .before .before .args in
+    let e = c .before .before .before .before .before .before .before .before .before .before .before .before .before .before .before .before in
+    let s = c .before .before .before .before .before .before .before .before .before .before .before .before .before .before .before .before .before .before .before .before .before .before .before .args in
     let h = held (s .places .now) (s .cards .now) in
-    let w = c .before .before .before .before .before .settle .ensures in
+    let w = c .before .before .before .before .before .before .settle .ensures in
     outcome-done (shuffleNumber (s .job) (s .b) h) (copiesOf (length (copyList (s .places .now)))) (settledHeld (racksOf (s .job)) (s .b) h) h _ _ (held _ _) (c .done .ensures)
-    (w .count-is ∙ ap (plusCopies (length (copyList (s .places .now)))) (c .before .before .before .before .before .before .before .before .none .ensures) ∙ rw zero-add)
+    (w .count-is ∙ ap (plusCopies (length (copyList (s .places .now)))) (c .before .before .before .before .before .before .before .before .before .before .before .none .ensures) ∙ rw zero-add)
     (settled-held (racksOf (s .job)) (s .b) (s .places .now) (s .cards .now) _ _ _ _ (opened e .table .legal .long) w)
-    (shuffled-none (s .job) (s .b) h (none e) (sym (away (c .before .before .before .before .before .before .before .before .before .before)) ∙ c .before .before .before .before .before .before .before .before .before .if2 .left))
+    (shuffled-none (s .job) (s .b) h (none e) (sym (away (c .before .before .before .before .before .before .before .before .before .before .before .before .before)) ∙ c .before .before .before .before .before .before .before .before .before .before .before .before .if2 .left))
 
 pub shuffle-job-spec : {M : Type 1} → statement M
 shuffle-job-spec =
@@ -117,6 +123,7 @@ shuffle-job-spec =
     same-length-4
     returns-2
     none-requires
+    slice-aggregate-settle
     settle-requires
     done-requires
     same-length-5

@@ -18,10 +18,10 @@ loop-holds : tie.Need-loop-holds Inv-loop μ-loop
 loop-holds c = (omega arith, zeroed-none _ _ _)
 
 mul-wide : tie.Need-mul-wide Inv-loop μ-loop
-mul-wide c = omega (arith, c .before .before .before .pre .1)
+mul-wide c = omega (arith, c .before .before .before .before .pre .1)
 
-element-copy-out-wide : tie.Need-element-copy-out-wide Inv-loop μ-loop
-element-copy-out-wide c = omega (arith, c .before .before .before .pre .1)
+shared-slice-read-wide : tie.Need-shared-slice-read-wide Inv-loop μ-loop
+shared-slice-read-wide c = omega (arith, c .before .before .before .before .before .pre .1)
 
 wide-requires : tie.Need-wide-requires Inv-loop μ-loop
 wide-requires c κs = search needs
@@ -29,7 +29,7 @@ wide-requires c κs = search needs
 blank-card-requires : tie.Need-blank-card-requires Inv-loop μ-loop
 blank-card-requires c κs =
     let l = c .before .before .before .before .loop in
-    let s = c .before .before .before .before .before .before in
+    let s = c .before .before .before .before .before .before .before in
     within (s .args .b) (s .args .slots) (c .before .wide .result) (l .cards) (l .inv .1 .size ∙ s .pre .2) (rw (c .before .wide .ensures) (s .pre .0 (l .i) (omega arith)))
 
 add-i : tie.Need-add-i Inv-loop μ-loop
@@ -41,7 +41,7 @@ loop-less c = omega arith
 loop-again : tie.Need-loop-again Inv-loop μ-loop
 loop-again c =
     let l = c .before .before .before .before .before .before .before .loop in
-    let s = c .before .before .before .before .before .before .before .before .before in
+    let s = c .before .before .before .before .before .before .before .before .before .before in
     let w = c .before .before .before .before .wide in
     (omega arith, zeroed-more (s .args .b) (s .args .slots) (s .args .frees .now) (l .i) (s .args .cards .now) (l .cards) _ (l .inv .1) (w .result) (w .ensures) (rw (w .ensures) (s .pre .0 (l .i) (omega arith))) (s .pre .2) (c .before .before .blank-card .ensures))
 
@@ -49,7 +49,7 @@ same-length : tie.Need-same-length Inv-loop μ-loop
 same-length c = c .before .loop .inv .1 .size
 
 returns : tie.Need-returns Inv-loop μ-loop
-returns c = let e : c .before .before .before .args .n ≡ c .before .loop .i = omega arith in rw e (c .before .loop .inv .1)
+returns c = let e : c .before .before .before .before .args .n ≡ c .before .loop .i = omega arith in rw e (c .before .loop .inv .1)
 
 pub zero-slots-spec : {M : Type 1} → statement M
 zero-slots-spec =
@@ -59,7 +59,7 @@ zero-slots-spec =
     μ-loop
     loop-holds
     mul-wide
-    element-copy-out-wide
+    shared-slice-read-wide
     wide-requires
     blank-card-requires
     add-i

@@ -55,7 +55,7 @@ returns : tie.Need-returns Inv-loop μ-loop
 returns c =
     let l = c .before .loop in
     let e = at-behind (c .before .before .pre .0) (l .inv .0) (omega (arith, l .inv .0 .passed)) in
-    λ g h. l .inv .2 g (omega (arith, e))
+    record { filled = λ g h. l .inv .2 g (omega (arith, e)); long = l .inv .1 }
 
 pub fill-racking-spec : {M : Type 1} → statement M
 fill-racking-spec =

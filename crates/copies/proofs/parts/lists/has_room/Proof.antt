@@ -1,5 +1,5 @@
 use Rattle.copies.proofs.Copied.{fits-long, fits-not, fits-just}
-use Rattle.copies.proofs.Progress.{unmarked-first, few-copies}
+use Rattle.copies.proofs.Progress.{few-copies}
 use native.Mathlib.Omega.{arith}
 use borrow.Author.Needs.{needs}
 use Rattle.copies.proofs.parts.lists.has_room.Statement.{statement}
@@ -10,24 +10,24 @@ mul-if1 c = search needs
 
 returns : tie.Need-returns
 returns c =
-    let s = c .before .before in
-    (fits-long (s .pre .0) (s .args .room) (c .if1 .taken), unmarked-first 2 (λ e. omega arith) _ (s .pre .2))
+    let s = c .before .before .before in
+    (fits-long (s .pre .0) (s .args .room) (c .if1 .taken), s .pre .3)
 
 count-factors-requires : tie.Need-count-factors-requires
 count-factors-requires c κs = search needs
 
 mul-if2 : tie.Need-mul-if2
-mul-if2 c = omega (arith, c .count-factors .ensures .0, few-copies (c .before .before .before .before .pre .0))
+mul-if2 c = omega (arith, c .count-factors .ensures .0, few-copies (c .before .before .before .before .before .pre .0))
 
 returns-2 : tie.Need-returns-2
 returns-2 c =
-    let s = c .before .before .before .before .before in
+    let s = c .before .before .before .before .before .before in
     let n = c .before .count-factors in
     (fits-not (s .args .places .now) (s .args .room) (n .result) (n .ensures .0) (c .if2 .taken), n .ensures .1)
 
 returns-3 : tie.Need-returns-3
 returns-3 c =
-    let s = c .before .before .before .before .before in
+    let s = c .before .before .before .before .before .before in
     let n = c .before .count-factors in
     (fits-just (s .args .places .now) (s .args .room) (n .result) (n .ensures .0) (c .if2 .left), n .ensures .1)
 

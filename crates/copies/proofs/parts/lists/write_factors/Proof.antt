@@ -1,5 +1,6 @@
 use Rattle.copies.proofs.Progress.{Listing, listing-start, counting-room, listing-more, listing-end, few-copies}
 use Rattle.copies.proofs.Writing.{put-long}
+use Rattle.factors.specs.parts.Walks.{LISTED}
 use mathlib.Core.Path.{_≡_, refl, _∙_}
 use lib.ListN.{length}
 use Prim.Native.Nat.{_≤_, _-_}
@@ -8,7 +9,7 @@ use Rattle.copies.proofs.parts.lists.write_factors.Statement.{statement
 use Rattle.copies.proofs.parts.lists.write_factors.Tie as tie
 
 abbrev Inv-loop : tie.InvT-loop
-Inv-loop places sources seen₀ list₀ at₀ k₀ seen list at k = (k ≤ length places) × (length list ≡ length list₀) × Listing places 2 k at seen₀ seen list₀ list
+Inv-loop places sources seen₀ list₀ at₀ k₀ seen list at k = (k ≤ length places) × (length list ≡ length list₀) × Listing places LISTED k at seen₀ seen list₀ list
 
 abbrev μ-loop : tie.MeasureT-loop
 μ-loop places sources seen₀ list₀ at₀ k₀ seen list at k = length places - k
@@ -18,9 +19,9 @@ loop-holds c = (omega arith, refl, listing-start _ _ _ _)
 
 write-slot-requires : tie.Need-write-slot-requires Inv-loop μ-loop
 write-slot-requires c κs =
-    let s = c .before .before .before .before .before .before in
+    let s = c .before .before .before .before .before .before .before in
     let l = c .before .before .before .loop in
-    let r = counting-room (s .args .places .now) 2 (l .k) (l .at) (s .args .seen .now) (l .seen) (l .inv .2 .counting) (s .pre .2) (omega arith) in (
+    let r = counting-room (s .args .places .now) LISTED (l .k) (l .at) (s .args .seen .now) (l .seen) (l .inv .2 .counting) (s .pre .2) (omega arith) in (
       s .pre .0,
       s .pre .1,
       omega arith,
@@ -37,7 +38,7 @@ loop-less c = omega arith
 
 loop-again : tie.Need-loop-again Inv-loop μ-loop
 loop-again c =
-    let s = c .before .before .before .before .before .before .before .before .before in
+    let s = c .before .before .before .before .before .before .before .before .before .before in
     let l = c .before .before .before .before .before .before .loop in
     let w = c .before .before .write-slot .ensures in
     (omega arith, put-long _ _ _ _ (w .list-is) ∙ l .inv .1, listing-more _ _ (l .k) _ _ _ _ _ (l .inv .2) (s .pre .2) (omega arith) _ _ _ w)
@@ -46,7 +47,7 @@ same-length : tie.Need-same-length Inv-loop μ-loop
 same-length c = c .before .loop .inv .1
 
 returns : tie.Need-returns Inv-loop μ-loop
-returns c = listing-end _ _ (c .before .loop .k) _ _ _ _ _ (c .before .loop .inv .2) (omega arith)
+returns c = listing-end _ (c .before .loop .k) _ _ _ _ _ (c .before .loop .inv .2) (omega arith)
 
 pub write-factors-spec : {M : Type 1} → statement M
 write-factors-spec =

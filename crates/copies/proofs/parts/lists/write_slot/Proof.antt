@@ -1,5 +1,6 @@
 use Rattle.copies.proofs.Progress.{written-none, counted-due, due-copies, due-count}
 use Rattle.copies.specs.parts.Writes.{putCopies}
+use Rattle.factors.specs.parts.Walks.{LISTED}
 use mathlib.Core.Path.{sym, ap, _∙_}
 use native.Mathlib.Omega.{arith}
 use borrow.Author.Needs.{needs}
@@ -17,9 +18,9 @@ walk-factor-requires c κs = search needs
 
 write-walk-requires : tie.Need-write-walk-requires
 write-walk-requires c κs =
-    let s = c .before .before .before .before .before .before .before in
+    let s = c .before .before .before .before .before .before .before .before in
     let w = c .before .walk-factor in
-    let n = due-count (s .args .places .now) (s .args .seen .now) 2 (s .args .k) (c .before .before .before .if1 .left) (w .result .head) (w .result .left) (w .result .end) _ (w .ensures) in
+    let n = due-count (s .args .places .now) (s .args .seen .now) LISTED (s .args .k) (c .before .before .before .if1 .left) (w .result .head) (w .result .left) (w .result .end) _ (w .ensures) in
     (w .ensures .inside, s .pre .0 .small, omega (arith, n, s .pre .4), omega (arith, n, s .pre .5))
 
 same-length : tie.Need-same-length
@@ -27,13 +28,13 @@ same-length c = search needs
 
 returns-2 : tie.Need-returns-2
 returns-2 c =
-    let s = c .before .before .before .before .before .before .before .before .before .before in
+    let s = c .before .before .before .before .before .before .before .before .before .before .before in
     let w = c .before .before .before .before .walk-factor in
     let r = c .before .before .write-walk in
     let q = c .before .before .before .before .before .before .if1 .left in
     record {
-      counted = counted-due (s .args .places .now) (s .args .seen .now) 2 (s .args .k) q (w .result .head) (w .result .left) (w .result .end) _ (w .ensures) (s .args .at) _ (r .ensures .0);
-      list-is = r .ensures .1 ∙ ap (putCopies (s .args .list .now) (s .args .at)) (sym (due-copies (s .args .places .now) (s .args .seen .now) 2 (s .args .k) q (w .result .head) (w .result .left) (w .result .end) _ (w .ensures)));
+      counted = counted-due (s .args .places .now) (s .args .seen .now) LISTED (s .args .k) q (w .result .head) (w .result .left) (w .result .end) _ (w .ensures) (s .args .at) _ (r .ensures .0);
+      list-is = r .ensures .1 ∙ ap (putCopies (s .args .list .now) (s .args .at)) (sym (due-copies (s .args .places .now) (s .args .seen .now) LISTED (s .args .k) q (w .result .head) (w .result .left) (w .result .end) _ (w .ensures)));
     }
 
 pub write-slot-spec : {M : Type 1} → statement M

@@ -12,12 +12,16 @@ cast-sources c = search needs
 mul-sources : tie.Need-mul-sources
 mul-sources c = search needs
 
-element-write-sources : tie.Need-element-write-sources
-element-write-sources c = search needs
+slice-write-sources : tie.Need-slice-write-sources
+slice-write-sources c = search needs
+
+same-length : tie.Need-same-length
+same-length c = search needs
 
 returns : tie.Need-returns
 returns c = put-source-is _ _ _ _ (c .named-slot .ensures)
 
 pub put-source-spec : {M : Type 1} → statement M
 put-source-spec =
-    tie.close (tie.spec named-slot-requires cast-sources mul-sources element-write-sources returns)
+    tie.close
+    (tie.spec named-slot-requires cast-sources mul-sources slice-write-sources same-length returns)

@@ -10,7 +10,7 @@ mark-on-requires c κs = search needs
 
 returns : tie.Need-returns
 returns c =
-    let s = c .before .before .before .before .before in
+    let s = c .before .before .before .before .before .before in
     walked-cycle (s .pre .0) (s .args .mark) (s .args .k) (s .pre .2) (s .args .seen .now) _ _ _ _ (c .before .before .mark-on .ensures) (c .if1 .taken)
 
 mark-back-requires : tie.Need-mark-back-requires
@@ -18,12 +18,12 @@ mark-back-requires c κs = search needs
 
 add-t11 : tie.Need-add-t11
 add-t11 c =
-    let s = c .before .before .before .before .before .before .before .before .before in
+    let s = c .before .before .before .before .before .before .before .before .before .before in
     omega (arith, c .before .before .mark-back .ensures .left-is, c .before .before .before .before .before .before .mark-on .ensures .left-is, back-short (s .pre .0) (s .args .k) (s .pre .2), onward-short (s .pre .0) (s .args .k) (s .pre .2), s .pre .0 .small)
 
 returns-2 : tie.Need-returns-2
 returns-2 c =
-    let s = c .before .before .before .before .before .before .before .before .before in
+    let s = c .before .before .before .before .before .before .before .before .before .before in
     walked-back (s .pre .0) (s .args .mark) (s .args .k) (s .pre .2) (s .args .seen .now) _ _ _ _ (c .before .before .before .before .before .before .mark-on .ensures) (c .before .before .before .before .if1 .left) _ _ _ (c .before .before .mark-back .ensures)
 
 pub walk-factor-spec : {M : Type 1} → statement M

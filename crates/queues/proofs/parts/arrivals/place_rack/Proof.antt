@@ -37,15 +37,6 @@ mul-line-3 c = search needs
 element-write-line-3 : tie.Need-element-write-line-3
 element-write-line-3 c = search needs
 
-add-line-4 : tie.Need-add-line-4
-add-line-4 c = search needs
-
-mul-line-4 : tie.Need-mul-line-4
-mul-line-4 c = search needs
-
-element-write-line-4 : tie.Need-element-write-line-4
-element-write-line-4 c = search needs
-
 returns : tie.Need-returns
 unfolding placed
 returns c = refl
@@ -65,7 +56,4 @@ place-rack-spec =
     add-line-3
     mul-line-3
     element-write-line-3
-    add-line-4
-    mul-line-4
-    element-write-line-4
     returns)

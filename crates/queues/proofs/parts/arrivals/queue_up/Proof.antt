@@ -4,7 +4,7 @@ use mathlib.Core.Path.{_≡_}
 use Prim.Native.Nat.{_-_, _≤_}
 use Rattle.racks.specs.Racks.{slots}
 use Rattle.racks.specs.Job.{racksOf}
-use Rattle.racks.proofs.Jobs.{sound-racks, sound-slots, sound-count}
+use Rattle.racks.proofs.Jobs.{sound-racks, sound-slots, sound-count, sound-start, start-small}
 use Rattle.queues.proofs.Queueing.{Queueing, queueing-none, queueable, queueing-more}
 use Rattle.queues.proofs.AllQueued.{job-tabled, queues-ready}
 use Rattle.queues.proofs.parts.arrivals.queue_up.Statement.{statement}
@@ -57,7 +57,7 @@ returns c = let l = c .before .before .before .before .loop in
     let job = s .args .job in
     let e : l .g ≡ slots (racksOf job) = omega (arith, sound-slots job (s .pre .0 .sound)) in
     record {
-      ready = queues-ready (racksOf job) (s .args .places .now) (s .args .racking .now) (job-tabled job _ _ (s .pre .0)) (job .racks) _ (l .line) _ _ (sound-racks job (s .pre .0 .sound)) (omega arith)
+      ready = queues-ready (racksOf job) (s .args .places .now) (s .args .racking .now) (job-tabled job _ _ (s .pre .0)) (job .ends) (sound-start job (s .pre .0 .sound)) (start-small job (s .pre .0 .sound)) (job .racks) _ (l .line) _ _ (sound-racks job (s .pre .0 .sound)) (omega arith)
           (c .before .before .before .before .before .before .before .place-racks .ensures) (rw e at (l .inv .1)) (c .before .before .before .before .before .find-free .ensures) (c .find-waiting .ensures);
       long = l .inv .1 .long;
     }

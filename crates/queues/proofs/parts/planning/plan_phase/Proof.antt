@@ -8,16 +8,16 @@ use Rattle.queues.proofs.parts.planning.plan_phase.Statement.{statement
 use Rattle.queues.proofs.parts.planning.plan_phase.Tie as tie
 
 abbrev Inv-loop : tie.InvT-loop
-Inv-loop line₀ bits log₀ at count₀ waiting₀ left₀ p₀ line log count waiting left p = (waiting < 2 ^ 64) × Reached p line₀ bits log₀ at line log count waiting left
+Inv-loop ends line₀ bits log₀ at count₀ waiting₀ left₀ p₀ line log count waiting left p = (waiting < 2 ^ 64) × Reached p ends line₀ bits log₀ at line log count waiting left
 
 abbrev μ-loop : tie.MeasureT-loop
-μ-loop line₀ bits log₀ at count₀ waiting₀ left₀ p₀ line log count waiting left p = 64 - p
+μ-loop ends line₀ bits log₀ at count₀ waiting₀ left₀ p₀ line log count waiting left p = 64 - p
 
 -- the next rack's pairs fit the log, whose length is a number of 64 bits
 room : (c : tie.In-loop Inv-loop μ-loop) →
     let l = c .before .loop in
     let s = c .before .before .before .before .before in
-    (s .args .at + 2 * l .count + 2 * sent (rowsOf (l .line) (s .args .bits .now)) (l .p) ≤ length (l .log)) × (length (l .log) < 2 ^ 64)
+    (s .args .at + 2 * l .count + 2 * sent (rowsOf (s .args .ends .now) (l .line) (s .args .bits .now)) (l .p) ≤ length (l .log)) × (length (l .log) < 2 ^ 64)
 room c =
     let l = c .before .loop in
     let s = c .before .before .before .before .before in

@@ -1,6 +1,6 @@
 use native.Mathlib.Omega.{arith}
 use borrow.Author.Needs.{needs}
-use Rattle.queues.specs.parts.Line.{lowOf}
+use Rattle.racks.specs.Job.{startIn}
 use Rattle.queues.proofs.Opens.{open-few}
 use Rattle.queues.proofs.Pairing.{visit-made, visit-done}
 use Rattle.queues.proofs.parts.planning.visit.Statement.{statement}
@@ -43,7 +43,7 @@ element-copy-out-room : tie.Need-element-copy-out-room
 element-copy-out-room c = search needs
 
 cast-room : tie.Need-cast-room
-cast-room c = let s = c .before .before .before .before in omega (arith, s .pre .3 .roomy, open-few (s .args .bits .now) (lowOf (s .args .line .now) (s .args .p)) 4096)
+cast-room c = let s = c .before .before .before .before in omega (arith, s .pre .3 .roomy, open-few (s .args .bits .now) (startIn (s .args .ends .now) (s .args .p)) 4096)
 
 smaller-requires : tie.Need-smaller-requires
 smaller-requires c κs = search needs
@@ -51,14 +51,8 @@ smaller-requires c κs = search needs
 add-end : tie.Need-add-end
 add-end c = search needs
 
-add-low : tie.Need-add-low
-add-low c = search needs
-
-mul-low : tie.Need-mul-low
-mul-low c = search needs
-
-element-copy-out-low : tie.Need-element-copy-out-low
-element-copy-out-low c = search needs
+first-slot-requires : tie.Need-first-slot-requires
+first-slot-requires c κs = search needs
 
 cast-low : tie.Need-cast-low
 cast-low c = search needs
@@ -67,8 +61,9 @@ plan-rack-requires : tie.Need-plan-rack-requires
 plan-rack-requires c κs = let s = c .before .before .before .before .before .before .before .before in
     let v = s .pre .3 in
     let m = c .before .before .before .smaller .ensures in
-    let e = visit-made (s .args .line .now) (s .args .bits .now) (s .args .p) (c .before .before .before .smaller .result) m in
-    ((omega arith, omega (arith, v .queued, v .within), s .pre .0, v .low-in, s .pre .2), (omega (arith, v .roomy), omega (arith, s .pre .4)))
+    let e = visit-made (s .args .ends .now) (s .args .line .now) (s .args .bits .now) (s .args .p) (c .before .before .before .smaller .result) m in
+    let f = c .before .before .first-slot .ensures in
+    ((omega arith, omega (arith, v .queued, v .within), s .pre .0, omega (arith, f, v .low-in), s .pre .2), (rw f (omega (arith, v .roomy)), omega (arith, s .pre .4)))
 
 cast-line : tie.Need-cast-line
 cast-line c = search needs
@@ -86,7 +81,7 @@ sub-line : tie.Need-sub-line
 sub-line c = search needs
 
 cast-line-2 : tie.Need-cast-line-2
-cast-line-2 c = let s = c .before .before .before .before .before .before .before .before .before .before .before in omega (arith, s .pre .3 .roomy, open-few (s .args .bits .now) (lowOf (s .args .line .now) (s .args .p)) 4096)
+cast-line-2 c = let s = c .before .before .before .before .before .before .before .before .before .before .before in omega (arith, s .pre .3 .roomy, open-few (s .args .bits .now) (startIn (s .args .ends .now) (s .args .p)) 4096)
 
 add-line-2 : tie.Need-add-line-2
 add-line-2 c = search needs
@@ -101,7 +96,7 @@ same-length : tie.Need-same-length
 same-length c = search needs
 
 returns : tie.Need-returns
-returns c = let s = c .before .before .before .before .before .before .before .before .before .before .before in visit-done (s .args .line .now) (s .args .bits .now) (s .args .p) _ (c .before .before .before .before .before .before .smaller .ensures) _ _ _ (c .before .before .plan-rack .ensures)
+returns c = let s = c .before .before .before .before .before .before .before .before .before .before .before in visit-done (s .args .ends .now) (s .args .line .now) (s .args .bits .now) (s .args .p) _ (c .before .before .before .before .before .before .smaller .ensures) _ _ _ (c .before .before .before .before .before .first-slot .ensures) (c .before .before .plan-rack .ensures)
 
 pub visit-spec : {M : Type 1} → statement M
 visit-spec =
@@ -122,9 +117,7 @@ visit-spec =
     cast-room
     smaller-requires
     add-end
-    add-low
-    mul-low
-    element-copy-out-low
+    first-slot-requires
     cast-low
     plan-rack-requires
     cast-line

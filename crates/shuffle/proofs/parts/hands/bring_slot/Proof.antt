@@ -1,5 +1,6 @@
 use Rattle.shuffle.proofs.Copying.{slot-none, slot-brought}
 use Rattle.copies.proofs.Progress.{due-count}
+use Rattle.factors.specs.parts.Walks.{COUNTED}
 use native.Mathlib.Omega.{arith}
 use borrow.Author.Needs.{needs}
 use Rattle.shuffle.proofs.parts.hands.bring_slot.Statement.{statement}
@@ -9,16 +10,16 @@ element-copy-out-if1 : tie.Need-element-copy-out-if1
 element-copy-out-if1 c = search needs
 
 returns : tie.Need-returns
-returns c = let s = c .before .before .before .before in slot-none _ _ (s .args .k) _ _ _ (c .if1 .taken) (s .pre .7)
+returns c = let s = c .before .before .before .before .before in slot-none _ _ (s .args .k) _ _ _ (c .if1 .taken) (s .pre .7)
 
 walk-factor-requires : tie.Need-walk-factor-requires
 walk-factor-requires c κs = search needs
 
 bring-walk-requires : tie.Need-bring-walk-requires
 bring-walk-requires c κs =
-    let s = c .before .before .before .before .before .before .before .before in
+    let s = c .before .before .before .before .before .before .before .before .before in
     let w = c .before .before .walk-factor in
-    let n = due-count (s .args .places .now) (s .args .seen .now) 1 (s .args .k) (c .before .before .before .before .if1 .left) (w .result .head) (w .result .left) (w .result .end) _ (w .ensures) in
+    let n = due-count (s .args .places .now) (s .args .seen .now) COUNTED (s .args .k) (c .before .before .before .before .if1 .left) (w .result .head) (w .result .left) (w .result .end) _ (w .ensures) in
     (w .ensures .inside, s .pre .0 .small, w .ensures .held, omega (arith, n, s .pre .4), s .pre .5, s .pre .6, s .pre .7)
 
 same-length : tie.Need-same-length
@@ -26,7 +27,7 @@ same-length c = search needs
 
 returns-2 : tie.Need-returns-2
 returns-2 c =
-    let s = c .before .before .before .before .before .before .before .before .before .before .before in
+    let s = c .before .before .before .before .before .before .before .before .before .before .before .before in
     let w = c .before .before .before .before .before .walk-factor in
     slot-brought _ _ (s .args .k) _ _ _ (c .before .before .before .before .before .before .before .if1 .left) (w .result .head) (w .result .left) (w .result .end) _ (w .ensures) _ _ _ (c .before .before .bring-walk .ensures)
 
