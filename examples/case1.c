@@ -22,7 +22,8 @@ static const uint8_t job[21] = {
 
 static void print_answer(const char *call, seineflute_answer a)
 {
-    printf("%s: number %zu phases %zu moves %zu copies %zu\n", call, a.number, a.phases, a.moves, a.copies);
+    printf("%s: number %zu (%s) phases %zu moves %zu copies %zu\n", call, a.number, seineflute_words(a.number),
+           a.phases, a.moves, a.copies);
 }
 
 static void print_pairs(const uint16_t *list, size_t pairs)
@@ -42,7 +43,7 @@ int main(void)
     seineflute_file_answer f =
         seineflute_read_file(job, sizeof job, caps, SEINEFLUTE_MAX_RACKS, places, SEINEFLUTE_MAX_SLOTS);
     if (f.number != SEINEFLUTE_DONE) {
-        printf("refused %zu\n", f.number);
+        printf("refused %zu: %s\n", f.number, seineflute_words(f.number));
         return 1;
     }
     size_t n = f.racks, b = f.bytes, s = f.slots;

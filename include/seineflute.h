@@ -29,17 +29,37 @@
  *
  * What is asked of the stack
  *
- * There is no heap, so a call's tables lie on the caller's stack. Measured at the largest jobs, in KB of
- * 1,024 bytes: file reader, table check, slot question and one move 14; phase plan 23; budgeted moves
- * 39; copy list 65; shuffle 90; whole run 114; listing 406. Large frames are touched page by page, so a
- * stack that is too small ends in its guard page. bindings/rust/examples/stack.rs measures anew.
+ * There is no heap, so a call's tables lie on the caller's stack. What each call takes, measured at the
+ * largest jobs, with half a KB to spare, rounded up to whole KB of 1,024 bytes:
+ *
+ *     limits                             1
+ *     read_file, check_table, one_move  14
+ *     slot_question                     15
+ *     phase_plan                        24
+ *     budgeted_moves                    40
+ *     copy_list                         62
+ *     shuffle_cards                     78
+ *     whole_run                         86
+ *     list_job                         382
+ *
+ * Large frames are touched page by page, so a stack that is too small ends in its guard page.
+ * bindings/rust/examples/stack.rs measures anew, and fails where a call takes more.
+ *
+ * To follow a listing move by move
+ *
+ * Ask for a plan, carry it pair by pair with seineflute_one_move, and ask for the next one when it is
+ * used up: these are the moves that a listing shows and that the whole run makes. Budgeted moves of a
+ * few at a time are others: each call plans afresh, on the table as it is by then, and so may take
+ * other slots, as one that a move has just left. Every card ends in its slot both ways, after as many
+ * moves.
  *
  * Numbers given back
  *
- * Every call gives a number, with counts of phases, moves and copies. A count is 0 where the call
- * does not speak of it. A number other than SEINEFLUTE_DONE is a refusal: then all counts and all
- * other fields are 0, and nothing lent has changed. Checks are made in the order of the numbers, and
- * the first that applies is given; the file reader has an order of its own.
+ * Every call gives a number, which seineflute_words puts into words, with counts of phases, moves and
+ * copies. A count is 0 where the call does not speak of it. A number other than SEINEFLUTE_DONE is a
+ * refusal: then all counts and all other fields are 0, and nothing lent has changed. Checks are made in
+ * the order of the numbers, and the first that applies is given; the file reader has an order of its
+ * own.
  *
  * What a call writes into a lent list starts at its front, and the rest is unchanged.
  */
@@ -52,6 +72,12 @@
 #ifdef __cplusplus
 extern "C" {
 #endif
+
+/* The version of this header, which is that of the Rust crate beside it. */
+#define SEINEFLUTE_VERSION "0.2.0"
+#define SEINEFLUTE_VERSION_MAJOR 0
+#define SEINEFLUTE_VERSION_MINOR 2
+#define SEINEFLUTE_VERSION_PATCH 0
 
 /* Limits. */
 enum {
@@ -99,6 +125,33 @@ enum {
     SEINEFLUTE_FILE_ROOM = 17,        /* file: room for capacities below N, or for places below S */
     SEINEFLUTE_FILE_LARGE = 18        /* in a listing's text only: file above 32,768 bytes */
 };
+
+/* The words of a number that a call gives back; of a number that none gives, "no such number". */
+static inline const char *seineflute_words(size_t number)
+{
+    switch (number) {
+    case SEINEFLUTE_DONE: return "done";
+    case SEINEFLUTE_BAD_COUNT: return "there are no racks, or more than 64";
+    case SEINEFLUTE_BAD_BYTES: return "a card has no bytes, or more than 256";
+    case SEINEFLUTE_BAD_SIZE: return "a rack has more than 1,023 user slots, or all racks more than 4,032";
+    case SEINEFLUTE_BAD_LENGTH: return "places has not one entry for each slot, or cards not one card for each slot";
+    case SEINEFLUTE_BAD_ENTRY: return "an entry is neither free nor a user slot";
+    case SEINEFLUTE_NAMED_TWICE: return "two entries name one slot";
+    case SEINEFLUTE_NO_SLOT: return "a slot number in the call is above that of the last slot";
+    case SEINEFLUTE_SOURCE_FREE: return "the source slot is free";
+    case SEINEFLUTE_SOURCE_HOME: return "the source's card is on its rack already";
+    case SEINEFLUTE_ELSEWHERE: return "the target is not on the card's destination rack";
+    case SEINEFLUTE_TARGET_TAKEN: return "the target is not free";
+    case SEINEFLUTE_SOME_AWAY: return "a card is away: its slot is on another rack";
+    case SEINEFLUTE_TOO_SHORT: return "the lent list is too short for what would be written";
+    case SEINEFLUTE_FILE_FORM: return "file: a number is not in its shortest form, or has more than three groups";
+    case SEINEFLUTE_FILE_ENDS: return "file: it ends too early";
+    case SEINEFLUTE_FILE_LEFT_OVER: return "file: bytes are left over";
+    case SEINEFLUTE_FILE_ROOM: return "file: the room for capacities or for places is too short";
+    case SEINEFLUTE_FILE_LARGE: return "file: it has more than 32,768 bytes";
+    default: return "no such number";
+    }
+}
 
 /* The kinds of a slot. */
 enum {
@@ -220,7 +273,7 @@ seineflute_answer seineflute_one_move(
 /*
  * Budgeted moves. Makes at most k moves: the present phase's pairs in plan order, a new plan when they
  * are used up. The moves count is the smaller of k and the cards away at entry. Gives 0 to 6. The next
- * call plans afresh.
+ * call plans afresh, and may take other slots than this call's plan had: to follow a listing, see above.
  */
 seineflute_answer seineflute_budgeted_moves(
     const uint16_t *caps, size_t caps_len,

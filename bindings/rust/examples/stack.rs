@@ -1,5 +1,7 @@
 //! How much stack each call takes, at the largest jobs: makes each call on a
-//! painted stack of its own, and looks how far down the paint is gone.
+//! painted stack of its own, and looks how far down the paint is gone. Fails where
+//! a call takes more than its figure (`tests/figures`), as does its test, which
+//! `cargo test` runs.
 //!
 //!     cargo run --release --offline --example stack
 
@@ -9,12 +11,27 @@ fn main() {
 }
 
 #[cfg(all(target_arch = "x86_64", target_os = "linux"))]
-fn main() {
-    measured::table();
+fn main() -> std::process::ExitCode {
+    if measured::table() {
+        std::process::ExitCode::SUCCESS
+    } else {
+        std::process::ExitCode::FAILURE
+    }
 }
 
 #[cfg(all(target_arch = "x86_64", target_os = "linux"))]
+#[test]
+fn no_call_takes_more_than_its_figure() {
+    assert!(measured::table());
+}
+
+#[cfg(all(target_arch = "x86_64", target_os = "linux"))]
+#[path = "../tests/figures/mod.rs"]
+mod figures;
+
+#[cfg(all(target_arch = "x86_64", target_os = "linux"))]
 mod measured {
+    use crate::figures::STACK;
     use seineflute::{raw, COPY_ROOM, FREE, MAX_BYTES, MAX_RACKS, MAX_SLOTS, PLAN_ROOM, TEXT_ROOM};
     use std::arch::asm;
 
@@ -42,6 +59,10 @@ mod measured {
     /// Nothing, to see what a call on the painted stack takes by itself.
     extern "C" fn nothing(job: &mut Job) {
         job.number = 0;
+    }
+
+    extern "C" fn limits(job: &mut Job) {
+        job.number = usize::from(raw::limits().racks != MAX_RACKS);
     }
 
     extern "C" fn check_table(job: &mut Job) {
@@ -163,8 +184,9 @@ mod measured {
         file.push(x as u8);
     }
 
-    /// Calls on the painted stack and prints a line for each.
-    pub fn table() {
+    /// Calls on the painted stack and prints a line for each; gives whether every
+    /// figure is enough.
+    pub fn table() -> bool {
         // 64 racks, each card away to the same slot of the next rack.
         let ring = job(&[63; MAX_RACKS], |u, m| (u < m).then_some((1, u)));
         assert_eq!(ring.places.len(), MAX_SLOTS);
@@ -181,8 +203,9 @@ mod measured {
         // The same racks, each rack's cards away to the next rack, one slot on.
         let turned = job(&long[..3], |u, m| (u < m).then_some((1, (u + 1) % m)));
 
-        let calls: [(&str, Call); 11] = [
+        let calls: [(&str, Call); 12] = [
             ("nothing", nothing),
+            ("limits", limits),
             ("check_table", check_table),
             ("slot_question", slot_question),
             ("phase_plan", phase_plan),
@@ -195,19 +218,35 @@ mod measured {
             ("list_job", list_job),
         ];
         let jobs = [ring, shift, cycle, turned];
-        println!("bytes of stack; in brackets the number that the call gave");
+        println!("bytes of stack; in brackets the number that the call gave; KB, and the figure");
         println!(
-            "{:16}{:>14}{:>14}{:>14}{:>14}",
-            "", "ring", "shift", "cycle", "turned"
+            "{:16}{:>14}{:>14}{:>14}{:>14}{:>6}{:>8}",
+            "", "ring", "shift", "cycle", "turned", "KB", "figure"
         );
+        let mut enough = true;
         for (name, call) in calls {
             print!("{name:16}");
+            let mut most = 0;
             for job in &jobs {
                 let mut job = job.clone();
                 let bytes = depth(call, &mut job);
                 print!("{:>14}", format!("{bytes} [{}]", job.number));
+                most = most.max(bytes);
             }
-            println!();
+            let kb = most.div_ceil(1_024);
+            match STACK.iter().find(|figure| figure.0 == name) {
+                Some(&(_, figure)) if kb > figure => {
+                    println!("{kb:>6}{figure:>8} is not enough");
+                    enough = false;
+                }
+                Some(&(_, figure)) => println!("{kb:>6}{figure:>8}"),
+                None => {
+                    assert_eq!(name, "nothing", "a call without a figure");
+                    println!("{kb:>6}");
+                }
+            }
         }
+        assert_eq!(calls.len(), STACK.len() + 1, "every figure is measured");
+        enough
     }
 }

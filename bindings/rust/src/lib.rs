@@ -25,10 +25,6 @@
 //!
 //! A refusal changes nothing that is lent.
 //!
-//! There is no heap: a call's tables lie on the caller's stack. The whole run takes
-//! up to 114 KB of it, the listing 406 KB, every other call at most 90 KB
-//! (`examples/stack.rs` measures it).
-//!
 //! ```
 //! use seineflute::{read_file, whole_run, Counts, FREE, MAX_RACKS, MAX_SLOTS};
 //!
@@ -52,6 +48,69 @@
 //! assert_eq!(places, [0, 1, FREE, 3, 4, FREE, 6, FREE]);
 //! # Ok::<(), seineflute::Refusal>(())
 //! ```
+//!
+//! # To follow a listing move by move
+//!
+//! Ask for a plan, carry it pair by pair with [`one_move`], and ask for the next
+//! one when it is used up: these are the moves that a [listing](list_job) shows and
+//! that [`whole_run`] makes. [`budgeted_moves`] of a few at a time are others: each
+//! call plans afresh, on the table as it is by then, and so may take other slots, as
+//! one that a move has just left. Every card ends in its slot both ways, after as
+//! many moves.
+//!
+//! ```
+//! use seineflute::{budgeted_moves, one_move, phase_plan, shuffle_cards, FREE, PLAN_ROOM};
+//!
+//! // The job above, whose listing has `phase 1: 3>2 0>5 4>7` and `phase 2: 6>0 1>3`.
+//! let caps = [2, 2, 1];
+//! let table = [3, 4, FREE, 0, 6, FREE, 1, FREE];
+//!
+//! let (mut places, mut cards) = (table, *b"AB\0CD\0E\0");
+//! let mut list = [0; PLAN_ROOM];
+//! let mut made = Vec::new();
+//! loop {
+//!     let pairs = phase_plan(&caps, &places, &mut list)?.moves;
+//!     if pairs == 0 {
+//!         break;
+//!     }
+//!     for pair in list[..2 * pairs].chunks(2) {
+//!         let (from, to) = (pair[0].into(), pair[1].into());
+//!         one_move(&caps, 1, &mut places, &mut cards, from, to)?;
+//!         made.push((from, to));
+//!     }
+//! }
+//! assert_eq!(made, [(3, 2), (0, 5), (4, 7), (6, 0), (1, 3)]);
+//! shuffle_cards(&caps, 1, &mut places, &mut cards)?;
+//! assert_eq!(cards, *b"CE\0AB\0D\0");
+//!
+//! // One move at a time by its budget: the first is 3>2 as well, and the next is
+//! // 0>3, where the listing has 0>5, since 3>2 has left slot 3 free.
+//! let (mut places, mut cards) = (table, *b"AB\0CD\0E\0");
+//! budgeted_moves(&caps, 1, &mut places, &mut cards, 1)?;
+//! assert_eq!(cards, *b"ABC\0D\0E\0");
+//! budgeted_moves(&caps, 1, &mut places, &mut cards, 1)?;
+//! assert_eq!(cards, *b"\0BCAD\0E\0");
+//! # Ok::<(), seineflute::Refusal>(())
+//! ```
+//!
+//! # What is asked of the stack
+//!
+//! There is no heap: a call's tables lie on the caller's stack. What each call
+//! takes, measured at the largest jobs, with half a KB to spare, rounded up to whole
+//! KB of 1,024 bytes (`examples/stack.rs` measures anew, and fails where a call takes
+//! more):
+//!
+//! | call | KB |
+//! |---|---|
+//! | `limits` | 1 |
+//! | `read_file`, `check_table`, `one_move` | 14 |
+//! | `slot_question` | 15 |
+//! | `phase_plan` | 24 |
+//! | `budgeted_moves` | 40 |
+//! | `copy_list` | 62 |
+//! | `shuffle_cards` | 78 |
+//! | `whole_run` | 86 |
+//! | `list_job` | 382 |
 
 use std::error::Error;
 use std::fmt;
@@ -97,7 +156,18 @@ pub const MAX_FILE: usize = 32_768;
 
 /// Why a call did nothing. Checks are made in this order and the first that
 /// applies is given; the file reader has an order of its own ([`read_file`]).
-#[derive(Clone, Copy, Debug, PartialEq, Eq, PartialOrd, Ord, Hash)]
+///
+/// It prints as its number and its words, by `{:?}` too, so that a `main` which
+/// gives back a `Result<(), Refusal>` says what is wrong.
+///
+/// ```
+/// let refusal = seineflute::check_table(&[1], &[1, 65_535]).unwrap_err();
+/// let said = "5: an entry is neither free nor a user slot";
+/// assert_eq!(refusal.to_string(), said);
+/// assert_eq!(format!("{refusal:?}"), said);
+/// ```
+#[derive(Clone, Copy, PartialEq, Eq, PartialOrd, Ord, Hash)]
+#[non_exhaustive]
 pub enum Refusal {
     /// 1: N is 0 or above 64.
     BadCount = 1,
@@ -141,7 +211,7 @@ pub enum Refusal {
 
 impl Refusal {
     /// All of them, by number.
-    pub const ALL: [Refusal; 18] = [
+    pub const ALL: &'static [Refusal] = &[
         Refusal::BadCount,
         Refusal::BadBytes,
         Refusal::BadSize,
@@ -171,35 +241,47 @@ impl Refusal {
     pub fn from_number(number: usize) -> Option<Refusal> {
         Refusal::ALL.get(number.checked_sub(1)?).copied()
     }
-}
 
-impl fmt::Display for Refusal {
-    fn fmt(&self, f: &mut fmt::Formatter<'_>) -> fmt::Result {
-        f.write_str(match self {
-            Refusal::BadCount => "N is 0 or above 64",
-            Refusal::BadBytes => "B is 0 or above 256",
-            Refusal::BadSize => "some m_p above 1,023, or the total above 4,032",
-            Refusal::BadLength => "places is not S long, or cards is lent and not S·B long",
-            Refusal::BadEntry => {
-                "an entry is neither 65,535 nor a user slot; \
-                 in a file, it is not 0 and one less than it is no user slot"
+    /// What it says, in the words of the C header's `seineflute_words`.
+    pub fn words(self) -> &'static str {
+        match self {
+            Refusal::BadCount => "there are no racks, or more than 64",
+            Refusal::BadBytes => "a card has no bytes, or more than 256",
+            Refusal::BadSize => {
+                "a rack has more than 1,023 user slots, or all racks more than 4,032"
             }
+            Refusal::BadLength => {
+                "places has not one entry for each slot, or cards not one card for each slot"
+            }
+            Refusal::BadEntry => "an entry is neither free nor a user slot",
             Refusal::NamedTwice => "two entries name one slot",
-            Refusal::NoSlot => "a slot number in the call is S or more",
+            Refusal::NoSlot => "a slot number in the call is above that of the last slot",
             Refusal::SourceFree => "the source slot is free",
             Refusal::SourceHome => "the source's card is on its rack already",
             Refusal::Elsewhere => "the target is not on the card's destination rack",
             Refusal::TargetTaken => "the target is not free",
-            Refusal::SomeAway => "a card is away",
+            Refusal::SomeAway => "a card is away: its slot is on another rack",
             Refusal::TooShort => "the lent list is too short for what would be written",
             Refusal::FileForm => {
-                "file: a number not in its shortest form, or of more than three groups"
+                "file: a number is not in its shortest form, or has more than three groups"
             }
             Refusal::FileEnds => "file: it ends too early",
-            Refusal::FileLeftOver => "file: bytes left over",
-            Refusal::FileRoom => "file: room for capacities below N, or for places below S",
-            Refusal::FileLarge => "file above 32,768 bytes",
-        })
+            Refusal::FileLeftOver => "file: bytes are left over",
+            Refusal::FileRoom => "file: the room for capacities or for places is too short",
+            Refusal::FileLarge => "file: it has more than 32,768 bytes",
+        }
+    }
+}
+
+impl fmt::Display for Refusal {
+    fn fmt(&self, f: &mut fmt::Formatter<'_>) -> fmt::Result {
+        write!(f, "{}: {}", self.number(), self.words())
+    }
+}
+
+impl fmt::Debug for Refusal {
+    fn fmt(&self, f: &mut fmt::Formatter<'_>) -> fmt::Result {
+        fmt::Display::fmt(self, f)
     }
 }
 
@@ -316,7 +398,9 @@ pub fn one_move(
 }
 
 /// Budgeted moves: at most `k`, the present phase's pairs in plan order, a new plan
-/// when they are used up. Refuses with 1 to 6.
+/// when they are used up. The next call plans afresh, and may take other slots than
+/// this call's plan had: [to follow a listing](crate#to-follow-a-listing-move-by-move),
+/// carry a plan pair by pair. Refuses with 1 to 6.
 pub fn budgeted_moves(
     caps: &[u16],
     b: usize,

@@ -282,10 +282,9 @@ fn empty_lists() {
 
 #[test]
 fn refusals_have_their_numbers() {
-    for (i, refusal) in Refusal::ALL.into_iter().enumerate() {
+    for (i, &refusal) in Refusal::ALL.iter().enumerate() {
         assert_eq!(refusal.number(), i + 1);
         assert_eq!(Refusal::from_number(i + 1), Some(refusal));
-        assert!(!refusal.to_string().is_empty());
     }
     assert_eq!(Refusal::from_number(0), None);
     assert_eq!(Refusal::from_number(19), None);

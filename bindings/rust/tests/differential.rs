@@ -19,10 +19,12 @@ use jobs::{Job, Random, Size, FREE};
 use mover::faulty::{Faulty, FAULTS};
 use mover::{Answer, Engine, FileAnswer, ListingAnswer, Mover, Plain, Proved, SlotAnswer};
 use std::fmt::Debug;
+use std::sync::Barrier;
+use std::thread;
 use std::time::Instant;
 
 /// The two that are compared.
-fn movers() -> (impl Mover, impl Mover) {
+fn movers() -> (impl Mover + Sync, impl Mover + Sync) {
     (Plain, Faulty::from_environment(Proved))
 }
 
@@ -38,6 +40,32 @@ fn the_proved_library_agrees_with_plain() {
 #[test]
 fn the_engine_agrees_with_plain() {
     compare_all("plain and engine", &Plain, &Engine);
+}
+
+/// Each thread has jobs of its own, by a seed of its own, and all begin at once.
+#[test]
+fn eight_threads_at_once_agree_with_plain() {
+    const THREADS: u64 = 8;
+    let seed = environment("SEED").unwrap_or(DEFAULT_SEED);
+    let jobs = environment("JOBS").unwrap_or(DEFAULT_JOBS) / (10 * THREADS) + 100;
+    let (a, b) = movers();
+    let all_ready = Barrier::new(THREADS as usize);
+    thread::scope(|scope| {
+        for thread in 1..=THREADS {
+            let (a, b, all_ready) = (&a, &b, &all_ready);
+            scope.spawn(move || {
+                let seed = seed.wrapping_add(thread);
+                let mut compare = Compare::new(a, b);
+                all_ready.wait();
+                for job in 0..jobs {
+                    let random = &mut Random::new(seed, job);
+                    if let Err(difference) = random_job(&mut compare, random, job) {
+                        panic!("thread {thread}: SEED={seed} ONLY={job}: {difference}");
+                    }
+                }
+            });
+        }
+    });
 }
 
 /// A test that cannot fail says nothing: each fault is found in a short run.
@@ -125,7 +153,7 @@ enum Row {
 
 const NUMBERS: usize = 19;
 
-/// Each row with the numbers that the scope page lets it give.
+/// Each row with the numbers that the rules let it give.
 const ROWS: [(Row, &str, &[usize]); 11] = [
     (Row::CheckTable, "check table", &[0, 1, 3, 4, 5, 6]),
     (Row::SlotQuestion, "slot question", &[0, 1, 3, 4, 5, 6, 7]),

@@ -1,4 +1,4 @@
-//! The paper cards of the scope page and the cases that settle what it leaves
+//! The paper cards of the rules and the cases that settle what they leave
 //! open, each written out by hand from the page: neither the vectors nor a
 //! second implementation stand between.
 

@@ -1,4 +1,4 @@
-//! The rules of the scope page, written from its text and from nothing else.
+//! The rules, written from their text and from nothing else.
 //!
 //! This is the yardstick of the differential test, so it stays simple: every
 //! phase is planned anew, every list is made in full before anything is

@@ -1,0 +1,18 @@
+//! The stack that each call takes, in KB of 1,024 bytes: what was measured and half a
+//! KB to spare, rounded up. They are the figures of the header, the crate's docs and
+//! the README. Where one changes, it is changed here; `tests/stack.rs` then says where
+//! else it stands, and `examples/stack.rs` fails where a call takes more.
+
+pub const STACK: [(&str, usize); 11] = [
+    ("limits", 1),
+    ("read_file", 14),
+    ("check_table", 14),
+    ("one_move", 14),
+    ("slot_question", 15),
+    ("phase_plan", 24),
+    ("budgeted_moves", 40),
+    ("copy_list", 62),
+    ("shuffle_cards", 78),
+    ("whole_run", 86),
+    ("list_job", 382),
+];
