@@ -118,7 +118,7 @@ module _ {words : List ℕ} {at rest : ℕ} where
   onward {t} {k} w l m o = record {
     later = λ e. record {
       k = k;
-      after = elim (decLt k ((at / 64 + 1) * 64)) [ yes i ↦ absurd (no-way o (walk-word w e k l i)) | no i ↦ omega arith ];
+      behind = elim (decLt k ((at / 64 + 1) * 64)) [ yes i ↦ absurd (no-way o (walk-word w e k l i)) | no i ↦ omega arith ];
       within = m;
       on = o;
     };
@@ -131,7 +131,7 @@ module _ {words : List ℕ} {at rest : ℕ} where
   module _ (e : rest ≡ 0) (n : Onward words at rest) where
     -- there are words behind it
     pub later-in : at / 64 + 1 ≤ 64
-    later-in = let r = n .later e in omega (arith, r .after, r .within)
+    later-in = let r = n .later e in omega (arith, r .behind, r .within)
 
     module _ (p : Topped words) {v : ℕ} (o : NextOn (bitOn (getD words 64 0)) (at / 64 + 1) 64 v) where
       -- one of them has a bit on
@@ -139,7 +139,7 @@ module _ {words : List ℕ} {at rest : ℕ} where
       later-lt = let r = n .later e in elim (decLt v 64) [
         | yes l ↦ l
         | no l ↦ absurd (no-way (r .on) (is-on-at words (r .k) (r .k / 64) (r .k % 64) refl refl
-            ∙ top-off p (r .k / 64) (r .k % 64) (omega (arith, r .within)) (o .passed (r .k / 64) (omega (arith, r .after)) (omega (arith, r .within)))))
+            ∙ top-off p (r .k / 64) (r .k % 64) (omega (arith, r .within)) (o .passed (r .k / 64) (omega (arith, r .behind)) (omega (arith, r .within)))))
       ]
 
       -- it is walked next

@@ -20,12 +20,13 @@ use Rattle.plans.specs.Plan.{planFor, plan, room}
 use Rattle.plans.proofs.Plans.{plan-for-serves, plan-allowed, plan-apart}
 use Rattle.bits.specs.parts.Bits.{bitOn}
 use Rattle.queues.specs.parts.Line.{headOf, tailOf, roomOf}
-use Rattle.queues.specs.parts.Queues.{Rows, rowsOf, sent, Visitable, PhasePlanned}
+use Rattle.queues.specs.parts.Queues.{Rows, rowsOf, Visitable}
+use Rattle.pairing.specs.parts.Phase.{sent, PhasePlanned}
 use Rattle.queues.specs.parts.Ready.{Ready}
 use Rattle.queues.proofs.Stretch.{part-drop}
-use Rattle.queues.proofs.Pairing.{sent-le, pairs-long}
+use Rattle.pairing.proofs.Pairing.{sent-le, pairs-long}
 use Rattle.queues.proofs.OpenSlots.{opens-roomy}
-use Rattle.queues.proofs.Ready.{ready-for}
+use Rattle.pairing.proofs.Ready.{ready-for}
 use Rattle.queues.proofs.Line.{queue-long}
 use Rattle.moves.specs.Moves.{carriedPlaces}
 use Rattle.moves.specs.Turns.{InTurn}

@@ -17,12 +17,13 @@ use Rattle.answers.specs.declared.Tally.{Tally}
 use Rattle.bits.specs.parts.Bits.{marked, cleared}
 use Rattle.bits.proofs.Sets.{length-marked, length-cleared}
 use Rattle.queues.specs.parts.Line.{roomOf}
-use Rattle.queues.specs.parts.Queues.{rowsOf, queuedPlan, PhasePlanned}
+use Rattle.queues.specs.parts.Queues.{rowsOf}
+use Rattle.pairing.specs.parts.Phase.{queuedPlan, PhasePlanned}
 use Rattle.queues.specs.parts.Queued.{oneMore}
 use Rattle.queues.proofs.Opens.{open-few}
 use Rattle.moves.specs.Moves.{Held}
-use Rattle.moves.specs.parts.Carrying.{pairsIn, AllSlots, Carried}
-use Rattle.moves.proofs.Flat.{pairs-of, pairs-more, pairs-none}
+use Rattle.carrying.specs.parts.Carrying.{pairsIn, AllSlots, Carried}
+use Rattle.carrying.proofs.Flat.{pairs-of, pairs-more, pairs-none}
 use Rattle.budgets.specs.parts.Engine.{note, noted, noteLine, notedLine, Notable, AllNotable, MoveNoted, Noted, Runnable, PhaseRun}
 use Rattle.budgets.proofs.Shows.{note-long, note-else, note-here}
 
@@ -63,7 +64,7 @@ module _ (log : List ℕ) (i high : ℕ) (fits : high ≤ length log) {racking l
     noting-first = first (split .moves)
 
     pub noting-room : roomOf line (getD racking (getD log i 0) 0) < 65535
-    noting-room = omega (arith, split .room (getD racking (getD log i 0) 0) (noting-first .racked))
+    noting-room = omega (arith, split .counts-fit (getD racking (getD log i 0) 0) (noting-first .racked))
 
     -- and then those after it
     pub noting-more : {line₂ bits₂ : List ℕ} → MoveNoted racking m line bits line₂ bits₂ → Noting log (i + 2) high racking line₂ bits₂ line′ bits′
@@ -71,9 +72,9 @@ module _ (log : List ℕ) (i high : ℕ) (fits : high ≤ length log) {racking l
     noting-more {line₂} {bits₂} n = rw (n .line-is, n .bits-are) (record {
       notable = record {
         moves = rest (split .moves);
-        room = λ p h. elim (ℕ-discrete p (getD racking (getD log i 0) 0)) [
-          | yes e ↦ rw e (omega (arith, note-here racking m line (noting-first .racked) (s .notable .line-long), split .room (getD racking (getD log i 0) 0) (noting-first .racked)))
-          | no d ↦ omega (arith, note-else racking m line (noting-first .racked) (4288 + p) (λ q. d (omega arith)), split .room p h)
+        counts-fit = λ p h. elim (ℕ-discrete p (getD racking (getD log i 0) 0)) [
+          | yes e ↦ rw e (omega (arith, note-here racking m line (noting-first .racked) (s .notable .line-long), split .counts-fit (getD racking (getD log i 0) 0) (noting-first .racked)))
+          | no d ↦ omega (arith, note-else racking m line (noting-first .racked) (4288 + p) (λ q. d (omega arith)), split .counts-fit p h)
         ];
         line-long = note-long racking m line (noting-first .racked) ∙ s .notable .line-long;
         bits-long = length-note m bits ∙ s .notable .bits-long;
@@ -125,7 +126,7 @@ module _ (ends : List ℕ) (b k : ℕ) (t : Tally) (h : Held) (racking line bits
   pub made-notable : AllNotable racking (pairsIn log′ (2 * t .moves) high) line₁ bits₁
   made-notable = record {
     moves = all-map (λ m a. record { from-lt = omega (arith, a .from-lt, w .small); to-lt = omega (arith, a .to-lt, w .small); racked = w .racked (m .0) (a .from-lt) }) made-slots;
-    room = λ q l.
+    counts-fit = λ q l.
         omega (
           arith,
           p .passed .rooms-are q l,

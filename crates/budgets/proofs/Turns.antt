@@ -21,9 +21,10 @@ use Rattle.answers.specs.declared.Tally.{Tally}
 use Rattle.answers.specs.Answers.{noCounts}
 use Rattle.plans.specs.Plan.{plan}
 use Rattle.plans.proofs.Plans.{plan-allowed, plan-aways, plan-few}
-use Rattle.queues.specs.parts.Queues.{rowsOf, queuedPlan}
+use Rattle.queues.specs.parts.Queues.{rowsOf}
+use Rattle.pairing.specs.parts.Phase.{queuedPlan}
 use Rattle.queues.specs.parts.Ready.{Ready}
-use Rattle.queues.proofs.Ready.{ready-plan}
+use Rattle.pairing.proofs.Ready.{ready-plan}
 use Rattle.moves.specs.Moves.{carriedPlaces, carriedCards, Held, carried}
 use Rattle.moves.specs.Phases.{budget}
 use Rattle.moves.specs.Turns.{InTurn}
@@ -84,7 +85,7 @@ module _ {racks : List Rack} {ends : List ℕ} {b k : ℕ} {h₀ : Held} {t : Ta
           plannable = record {
             long = s .line-long;
             bounded = s .ready l .bounded;
-            fits = rw all-is (omega (arith, plan-aways racks (h .places), s .count, aways-few racks (h₀ .places), f .small, s .room));
+            fits = rw all-is (omega (arith, plan-aways racks (h .places), s .count, aways-few racks (h₀ .places), f .small, s .log-long));
           };
           small = omega (arith, s .legal .long, f .small);
           sized = ap (λ (n : ℕ). n * b) (s .legal .long) ∙ sym (s .cards-long);
@@ -143,7 +144,7 @@ module _ {racks : List Rack} {ends : List ℕ} {b k : ℕ} {h₀ : Held} {t : Ta
               legal = rw held-is (legal-in-turn (s .legal) in-turn);
               cards-long = rw held-is (length-carried-cards b made (h .cards) ∙ s .cards-long);
               line-long = ap length (r .noted-are .line-is) ∙ noted-long racking (f .filled) (f .few) (r .line₁) (s .legal) in-turn-all (r .planned .long);
-              room = rw (r .planned .written .list, length-sets) (s .room);
+              log-long = rw (r .planned .written .list, length-sets) (s .log-long);
               ready = ready;
               rest = ap (carried b (budget racks (k - t′ .moves) (h′ .places))) held-is ∙ sym (carried-append b _ _ h) ∙ ap (λ (ms : List Pair). carried b ms h) (sym left-over) ∙ s .rest;
               count = rw held-is (omega (arith, moves-are, aways-carried (s .legal) in-turn, s .count));
@@ -171,7 +172,7 @@ module _ {job : Job} {b : ℕ} {h : Held} {racking line bits log : List ℕ} (g 
         legal = g .opened .legal;
         cards-long = g .cards-long;
         line-long = g .started .long;
-        room = g .room;
+        log-long = g .log-long;
         ready = λ _. g .started .ready;
         rest = rw z;
         count = omega arith;

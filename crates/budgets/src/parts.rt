@@ -8,7 +8,7 @@ ghost use Rattle.racks.specs.Job.{racksOf, FitSpared};
 ghost use Rattle.tables.specs.parts.Tables.{Open};
 ghost use Rattle.bits.specs.parts.Bits.{WORDS};
 ghost use Rattle.queues.specs.parts.Line.{roomOf, LINE};
-ghost use Rattle.moves.specs.parts.Carrying.{pairsIn};
+ghost use Rattle.carrying.specs.parts.Carrying.{pairsIn};
 ghost use Rattle.moves.specs.Moves.{held, outcomeOf};
 ghost use Rattle.budgets.specs.parts.Engine.{Notable, AllNotable, MoveNoted, Noted, Runnable, PhaseRun, Going, Made};
 ghost use Rattle.budgets.specs.parts.Budgeted.{budgetedBy};
@@ -16,7 +16,6 @@ use answers::Answer;
 use answers::Tally;
 use queues::parts::arrivals;
 use queues::parts::line;
-use queues::parts::planning;
 use racks::Job;
 
 // One move noted: its source is free now, and its rack has one free slot more; its target is not.
@@ -72,11 +71,11 @@ pub fn run_phase(
     ensures { λ r. ⌜ PhaseRun (now (ends .entry)) b k tally (held (now (places .entry)) (now (cards .entry))) (now (racking .entry)) (now (line .entry)) (now (bits .entry)) (now (log .entry)) r (held (now (places .exit)) (now (cards .exit))) (now (line .exit)) (now (bits .exit)) (now (log .exit)) ⌝ }
 {
     let low = 2 * tally.moves;
-    let planned = planning::plan_phase(ends, line, bits, log, low);
+    let planned = pairing::parts::plan_phase(ends, line, bits, log, low);
     let left = k - tally.moves;
-    let made = planning::smaller(planned, left);
+    let made = queues::parts::smaller(planned, left);
     let high = low + 2 * made;
-    let after = moves::parts::carry(log, low, high, places, cards, b, tally);
+    let after = carrying::parts::carry(log, low, high, places, cards, b, tally);
     note_moves(log, low, high, racking, line, bits);
     after
 }

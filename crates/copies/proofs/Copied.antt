@@ -12,7 +12,7 @@ use Rattle.counting.specs.Lists.{flat}
 use Rattle.counting.specs.Checks.{first}
 use Rattle.counting.proofs.Checks.{first-here, first-later, first-none, refusal-here, refusal-past}
 use Rattle.counting.proofs.Stores.{length-flat}
-use Rattle.answers.specs.Answers.{copiesOf, plusCopies, answer, noCounts, listed, listedOf}
+use Rattle.answers.specs.Answers.{copiesOf, answer, noCounts, listed, listedOf}
 use Rattle.answers.specs.declared.Answer.{Answer}
 use Rattle.answers.specs.declared.Tally.{Tally}
 use Rattle.answers.proofs.Answers.{listed-refused, listed-done}
@@ -57,11 +57,10 @@ module _ (places lent : List ℕ) where
   fits-room e = ltb-false (length lent) (2 * length (copyList places)) (not-on e)
 
   -- the list is written, and the tally has its copies
-  pub here-done : fits (length lent) places ≡ true → (a : Answer) (t : Tally) (n : ℕ) (seen after marks : List ℕ) → a ≡ answer 0 t → t ≡ plusCopies n noCounts → AllWritten places lent seen n after marks → listedOf a after ≡ listedHere places lent
+  pub here-done : fits (length lent) places ≡ true → (a : Answer) (none t : Tally) (seen after marks : List ℕ) → a ≡ answer 0 t → none ≡ noCounts → AllWritten places lent seen none t after marks → listedOf a after ≡ listedHere places lent
   unfolding listedHere fits tooShort putCopies
-  here-done e a t n seen after marks ea et w =
-      let z : n ≡ length (copyList places) = w .count-is in
-      listed-done (first ((tooShort lent (flat (copyList places)), 13) ∷ [])) (copiesOf (length (copyList places))) (flat (copyList places)) lent a t after ea (et ∙ rw (z, zero-add)) (w .list-is)
+  here-done e a none t seen after marks ea en w =
+      listed-done (first ((tooShort lent (flat (copyList places)), 13) ∷ [])) (copiesOf (length (copyList places))) (flat (copyList places)) lent a t after ea (w .count-is ∙ rw (en, zero-add)) (w .list-is)
       (first-later _ 13 [] (rw (length-flat (copyList places)) (not-on e)) ∙ first-none)
 
 -- the number of the call, by a job

@@ -1,6 +1,6 @@
 pub mod AwayBy
 pub mod Writing
-pub mod Progress
 pub mod Tallied
+pub mod Progress
 pub mod Copied
 pub mod Accepted

@@ -11,13 +11,16 @@ use Rattle.counting.specs.Tests.{_or_}
 use Rattle.counting.specs.Lists.{Pair, join, each, among}
 use Rattle.counting.proofs.Tests.{by-test}
 use Rattle.counting.proofs.Members.{among-append}
+use Rattle.answers.specs.Answers.{plusCopies}
+use Rattle.answers.specs.declared.Tally.{Tally}
 use Rattle.factors.specs.Copies.{factor, factorsFrom, factors, copies, copyList}
 use Rattle.factors.specs.parts.Chains.{Chained}
 use Rattle.factors.specs.parts.Walks.{LISTED, walked, walkCount, Marked, Unmarked, Walked}
-use Rattle.copies.specs.parts.Writes.{putCopies, due, Counted, CopiesWritten, AllWritten}
+use Rattle.copies.specs.parts.Writes.{putCopies, due, Counted, Added, CopiesWritten, AllWritten}
 use Rattle.factors.proofs.Costs.{list-most}
 use Rattle.factors.proofs.Walking.{mark-none}
 use Rattle.factors.proofs.Walked.{length-walked}
+use Rattle.copies.proofs.Tallied.{plus-none, plus-count, plus-both}
 use Rattle.copies.proofs.Writing.{put-none, put-append}
 
 -- what is due at slot k: nothing where it is marked
@@ -127,11 +130,15 @@ module _ (places : List ℕ) (mark k at : ℕ) (start seen : List ℕ) (p : Coun
       count = omega (arith, c .count-is, p .count, length-append (p .made) (copies places (due places mark seen k)));
     }
 
--- slot k is marked: nothing is counted
+-- slot k is marked: no mark is made
+due-none-marked : (places seen : List ℕ) (mark k : ℕ) → getD seen k 0 ≡ mark → Marked mark (due places mark seen k) seen seen
+due-none-marked places seen mark k e = rw (due-none places seen mark k e) (mark-none mark seen)
+
+-- and nothing is counted
 pub counted-none : (places seen : List ℕ) (mark k at : ℕ) → getD seen k 0 ≡ mark → Counted places mark k at seen at seen
 counted-none places seen mark k at e = record {
   count-is = let z : length (copies places (due places mark seen k)) ≡ 0 = ap length (marked-none places seen mark k e) in omega arith;
-  marked = rw (due-none places seen mark k e) (mark-none mark seen);
+  marked = due-none-marked places seen mark k e;
 }
 
 -- it is not: its factor is walked and its copies are counted
@@ -150,38 +157,76 @@ module _ (places seen : List ℕ) (mark k : ℕ) (q : getD seen k 0 ≢ mark) (h
   pub counted-due : (at count : ℕ) → count ≡ at + walkCount n end → Counted places mark k at seen count marks
   counted-due at count e = record { count-is = e ∙ ap (λ (m : ℕ). at + m) (sym due-count); marked = due-marked }
 
--- the copies of the slots before k are written
-pub record Listing (places : List ℕ) (mark k at : ℕ) (start seen list after : List ℕ) : Type 0 where
-  pub counting : Counting places mark k at start seen
-  pub wrote : after ≡ putCopies list 0 (counting .made)
+  -- and added to the tally
+  pub added-due : (tally after : Tally) → after ≡ plusCopies (walkCount n end) tally → Added places mark k seen tally after marks
+  added-due tally after e = record { count-is = e ∙ ap (λ (m : ℕ). plusCopies m tally) (sym due-count); marked = due-marked }
 
--- none is
-pub listing-start : (places start list : List ℕ) (mark : ℕ) → Listing places mark 0 0 start start list list
-unfolding counting-start
-listing-start places start list mark = record { counting = counting-start places start mark; wrote = sym (put-none list 0) }
-
--- behind the last slot all are
-pub listing-end : (places : List ℕ) (k at : ℕ) (start seen list after : List ℕ) → Listing places LISTED k at start seen list after → k ≡ length places → AllWritten places list start at after seen
-listing-end places k at start seen list after p e = record {
-  count-is = counting-end places LISTED k at start seen (p .counting) e;
-  list-is = p .wrote ∙ ap (putCopies list 0) (sym (progress-end places LISTED k start seen (p .counting .made) (p .counting .progress) e));
-  marked = record { slots = p .counting .progress .done; marked = p .counting .progress .marks };
+-- slot k is marked: nothing is added
+pub added-none : (places seen : List ℕ) (mark k : ℕ) (tally : Tally) → getD seen k 0 ≡ mark → Added places mark k seen tally tally seen
+added-none places seen mark k tally e = record {
+  count-is = plus-none tally (length (copies places (due places mark seen k))) (ap length (marked-none places seen mark k e));
+  marked = due-none-marked places seen mark k e;
 }
 
-module _ (places : List ℕ) (mark k at : ℕ) (start seen list after : List ℕ) (p : Listing places mark k at start seen list after) where
+-- the copies of the slots before k, these, are added to the tally
+pub record Adding (places : List ℕ) (mark k : ℕ) (start seen : List ℕ) (made : List Pair) (tally sum : Tally) : Type 0 where
+  pub progress : Progress places mark k start seen made
+  pub count-is : sum ≡ plusCopies (length made) tally
+
+-- none is
+pub adding-start : (places start : List ℕ) (mark : ℕ) (tally : Tally) → Adding places mark 0 start start [] tally tally
+adding-start places start mark tally = record { progress = progress-start places start mark; count-is = plus-none tally 0 refl }
+
+module _ (places : List ℕ) (mark k : ℕ) (start seen : List ℕ) (made : List Pair) (tally sum : Tally) (p : Adding places mark k start seen made tally sum) where
+  -- behind the last slot all are
+  pub adding-end : k ≡ length places → sum ≡ plusCopies (length (copyList places)) tally
+  adding-end e = p .count-is ∙ ap (λ (cs : List Pair). plusCopies (length cs) tally) (sym (progress-end places mark k start seen made (p .progress) e))
+
+  module _ (fresh : Unmarked places mark start) (low : k < length places) where
+    -- there is room for those of slot k
+    pub adding-room : tally .copies ≡ 0 → sum .copies + length (copies places (due places mark seen k)) ≤ length (copyList places)
+    adding-room z = omega (arith, plus-count tally sum (length made) (p .count-is), progress-room places mark k start seen made (p .progress) fresh low)
+
+    -- those of slot k too
+    pub adding-more : (sum₂ : Tally) (seen₂ : List ℕ) → Added places mark k seen sum sum₂ seen₂ → Adding places mark (k + 1) start seen₂ (made ++ copies places (due places mark seen k)) tally sum₂
+    adding-more sum₂ seen₂ a = record {
+      progress = progress-more places mark k start seen made (p .progress) fresh low seen₂ (a .marked);
+      count-is = plus-both tally sum sum₂ (length made) (length (copies places (due places mark seen k))) (length (made ++ copies places (due places mark seen k))) (p .count-is) (a .count-is)
+          (length-append made (copies places (due places mark seen k)));
+    }
+
+-- the same, and they are written from the list's front
+pub record Listing (places : List ℕ) (mark k : ℕ) (start seen list₀ list : List ℕ) (tally sum : Tally) : Type 0 where
+  pub made : List Pair
+  pub adding : Adding places mark k start seen made tally sum
+  pub wrote : list ≡ putCopies list₀ 0 made
+
+-- none is
+pub listing-start : (places start list : List ℕ) (mark : ℕ) (tally : Tally) → Listing places mark 0 start start list list tally tally
+listing-start places start list mark tally = record { made = []; adding = adding-start places start mark tally; wrote = sym (put-none list 0) }
+
+-- behind the last slot all are
+pub listing-end : (places : List ℕ) (k : ℕ) (start seen list₀ list : List ℕ) (tally sum : Tally) → Listing places LISTED k start seen list₀ list tally sum → k ≡ length places → AllWritten places list₀ start tally sum list seen
+listing-end places k start seen list₀ list tally sum p e = record {
+  count-is = adding-end places LISTED k start seen (p .made) tally sum (p .adding) e;
+  list-is = p .wrote ∙ ap (putCopies list₀ 0) (sym (progress-end places LISTED k start seen (p .made) (p .adding .progress) e));
+  marked = record { slots = p .adding .progress .done; marked = p .adding .progress .marks };
+}
+
+module _ (places : List ℕ) (mark k : ℕ) (start seen list₀ list : List ℕ) (tally sum : Tally) (p : Listing places mark k start seen list₀ list tally sum) where
   -- those of slot k too
-  pub listing-more : Unmarked places mark start → k < length places → (at₂ : ℕ) (after₂ seen₂ : List ℕ) → CopiesWritten places mark k at after seen at₂ after₂ seen₂ → Listing places mark (k + 1) at₂ start seen₂ list after₂
-  unfolding counting-more
-  listing-more fresh low at₂ after₂ seen₂ w = record {
-    counting = counting-more places mark k at start seen (p .counting) fresh low at₂ seen₂ (w .counted);
+  pub listing-more : Unmarked places mark start → tally .copies ≡ 0 → k < length places → (sum₂ : Tally) (list₂ seen₂ : List ℕ) → CopiesWritten places mark k list seen sum sum₂ list₂ seen₂ → Listing places mark (k + 1) start seen₂ list₀ list₂ tally sum₂
+  listing-more fresh z low sum₂ list₂ seen₂ w = record {
+    made = p .made ++ copies places (due places mark seen k);
+    adding = adding-more places mark k start seen (p .made) tally sum (p .adding) fresh low sum₂ seen₂ (w .added);
     wrote =
-        let e : at ≡ 0 + length (p .counting .made) = omega (arith, p .counting .count) in
-        w .list-is ∙ rw (p .wrote, e) (sym (put-append list 0 (p .counting .made) (copies places (due places mark seen k))));
+        let e : sum .copies ≡ 0 + length (p .made) = omega (arith, plus-count tally sum (length (p .made)) (p .adding .count-is)) in
+        w .list-is ∙ rw (p .wrote, e) (sym (put-append list₀ 0 (p .made) (copies places (due places mark seen k))));
   }
 
 -- slot k is marked: nothing is written
-pub written-none : (places seen list : List ℕ) (mark k at : ℕ) → getD seen k 0 ≡ mark → CopiesWritten places mark k at list seen at list seen
-written-none places seen list mark k at e = record {
-  counted = counted-none places seen mark k at e;
-  list-is = sym (put-none list at) ∙ ap (putCopies list at) (sym (marked-none places seen mark k e));
+pub written-none : (places seen list : List ℕ) (mark k : ℕ) (tally : Tally) → getD seen k 0 ≡ mark → CopiesWritten places mark k list seen tally tally list seen
+written-none places seen list mark k tally e = record {
+  added = added-none places seen mark k tally e;
+  list-is = sym (put-none list (tally .copies)) ∙ ap (putCopies list (tally .copies)) (sym (marked-none places seen mark k e));
 }

@@ -7,11 +7,10 @@ use native.Mathlib.Omega.{arith}
 use native.Mathlib.Numerals.{add-one}
 use lib.ListN.{length, getD, set}
 use lib.Seq.{length-sets}
-use borrow.Author.Tests.{eq-eqb, ne-eqb}
 use Rattle.counting.specs.Lists.{Pair, flat}
 use Rattle.racks.specs.Limits.{FREE, HAND}
 use Rattle.factors.specs.Copies.{next, shift}
-use Rattle.factors.specs.parts.Walks.{steps, Inside, walked, walkCount}
+use Rattle.factors.specs.parts.Walks.{steps, Inside, walked}
 use Rattle.copies.specs.parts.Writes.{putCopies}
 use Rattle.counting.proofs.Stores.{length-flat, flat-append, sets-append}
 use Rattle.factors.proofs.Costs.{length-shift}
@@ -63,19 +62,14 @@ shift-more places list l m at (suc n) x y e h i q k p r =
 -- the copies of a factor, as they are walked
 module _ (places : List ℕ) (h n end : ℕ) where
   -- written: a shift
-  pub wrote-shift : end ≡ FREE → (list l : List ℕ) (at r : ℕ) → r ≡ at + n → l ≡ putCopies list at (shift h (steps (next places) n h)) → (r ≡ at + walkCount n end) × (l ≡ putCopies list at (walked places h n end))
-  unfolding walkCount
-  wrote-shift e list l at r i p = (i ∙ rw (eq-eqb end FREE e), p ∙ ap (putCopies list at) (sym (walked-shift places h n end e)))
+  pub wrote-shift : end ≡ FREE → (list l : List ℕ) (at : ℕ) → l ≡ putCopies list at (shift h (steps (next places) n h)) → l ≡ putCopies list at (walked places h n end)
+  wrote-shift e list l at p = p ∙ ap (putCopies list at) (sym (walked-shift places h n end e))
 
   -- written: by the hand, in three parts
-  pub wrote-hand : end ≢ FREE → (list l₁ l₂ l₃ : List ℕ) (at r first : ℕ) → first ≡ h → r ≡ at + 1 + n
-      → l₁ ≡ putCopies list at ((end, HAND) ∷ []) → l₂ ≡ putCopies l₁ (at + 1) (shift h (steps (next places) n h)) → l₃ ≡ putCopies l₂ r ((HAND, first) ∷ [])
-      → (r + 1 ≡ at + walkCount n end) × (l₃ ≡ putCopies list at (walked places h n end))
-  unfolding walkCount
-  wrote-hand q list l₁ l₂ l₃ at r first j k p o s =
+  pub wrote-hand : end ≢ FREE → (list l₁ l₂ l₃ : List ℕ) (at behind last first : ℕ) → first ≡ h → behind ≡ at + 1 → last ≡ behind + n
+      → l₁ ≡ putCopies list at ((end, HAND) ∷ []) → l₂ ≡ putCopies l₁ behind (shift h (steps (next places) n h)) → l₃ ≡ putCopies l₂ last ((HAND, first) ∷ [])
+      → l₃ ≡ putCopies list at (walked places h n end)
+  wrote-hand q list l₁ l₂ l₃ at behind last first j i k p o s =
       let cs : List Pair = shift h (steps (next places) n h) in
-      let d : r ≡ at + length ((end, HAND) ∷ cs) = omega (arith, length-shift h (steps (next places) n h), length-steps (next places) n h) in
-      let c : r + 1 ≡ at + (n + 2) = omega arith in (
-        c ∙ rw (ne-eqb end FREE q),
-        s ∙ rw (o, p, j, ← put-append list at ((end, HAND) ∷ []) cs, d, ← put-append list at ((end, HAND) ∷ cs) ((HAND, h) ∷ [])) (ap (putCopies list at) (sym (walked-hand places h n end q))),
-      )
+      let d : last ≡ at + length ((end, HAND) ∷ cs) = omega (arith, length-shift h (steps (next places) n h), length-steps (next places) n h) in
+      s ∙ rw (o, p, j, i, ← put-append list at ((end, HAND) ∷ []) cs, d, ← put-append list at ((end, HAND) ∷ cs) ((HAND, h) ∷ [])) (ap (putCopies list at) (sym (walked-hand places h n end q)))

@@ -1,6 +1,6 @@
-// What the copy list puts together, and the shuffle after it: the cards that are away, the list in a lent one, the copies in the tally.
+// What the copy list puts together, and the shuffle after it: the cards that are away, the list in a lent one.
 ghost use mathlib.Core.Path.{_≡_};
-ghost use Prim.Native.Nat.{_+_, _*_, _≤_, _<_};
+ghost use Prim.Native.Nat.{_*_, _≤_, _<_};
 ghost use Rattle.answers.specs.Answers.{plusCopies, listedOf};
 ghost use lib.ListN.{length};
 ghost use Rattle.counting.specs.Tests.{_or_};
@@ -52,20 +52,6 @@ pub fn some_away(racking: &[u8; Job::MAX_SLOTS], places: &[u16]) -> bool
     found
 }
 
-// So many copies more, one at a time.
-pub fn add_copies(tally: Tally, count: usize) -> Tally
-    requires { ⌜ tally .copies + count < 18446744073709551616 ⌝ }
-    ensures { λ r. ⌜ r ≡ plusCopies count tally ⌝ }
-{
-    let mut sum = tally;
-    let mut i: usize = 0;
-    while i < count {
-        sum = sum.add_copy();
-        i = i + 1;
-    }
-    sum
-}
-
 // The copy list, from the front of a lent list that has room for it; the tally with its copies. Marks of other kinds stay.
 pub fn list_copies(
     places: &[u16],
@@ -80,8 +66,7 @@ pub fn list_copies(
 {
     let mut sources = [Job::FREE; Job::SOURCES];
     walks::fill_sources(places, &mut sources);
-    let count = lists::write_factors(places, &sources, seen, list);
-    add_copies(tally, count)
+    lists::write_factors(places, &sources, seen, list, tally)
 }
 
 // The copies of an accepted table with nothing away: where the lent list has room for them, they are listed in it.
@@ -92,9 +77,8 @@ pub fn list_counted(places: &[u16], seen: &mut [u8; Job::MAX_SLOTS], lent: &mut 
     let mut sources = [Job::FREE; Job::SOURCES];
     walks::fill_sources(places, &mut sources);
     if lists::has_room(places, &sources, seen, lent.len()) {
-        let written = lists::write_factors(places, &sources, seen, lent);
         let none = Tally::none();
-        let tally = add_copies(none, written);
+        let tally = lists::write_factors(places, &sources, seen, lent, none);
         return Answer::done(tally);
     }
     Answer::of(13)

@@ -20,7 +20,7 @@ use Rattle.moves.specs.Phases.{budgeted}
 use Rattle.moves.specs.Turns.{InTurn, Moving}
 use Rattle.moves.proofs.Carry.{in-turn-append, in-turn-moving, legal-carried, length-carried-cards, carried-append}
 use Rattle.moves.specs.Turns.InTurn.{stop, next}
-use Rattle.moves.proofs.Ends.{ends-allowed}
+use Rattle.mover.proofs.Ends.{ends-allowed}
 use Rattle.tables.proofs.Tables.{cards-marked}
 use Rattle.moves.proofs.Phases.{budget-in-turn, budget-length}
 use Rattle.moves.proofs.FirstFit.{first-fit}

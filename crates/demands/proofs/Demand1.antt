@@ -23,12 +23,12 @@ use Rattle.factors.specs.Copies.{copyChecks, copied}
 use Rattle.shuffle.specs.Shuffle.{shuffleChecks, shuffled}
 use Rattle.runs.specs.Run.{ran}
 use Rattle.answers.specs.declared.Answer.{Answer}
-use Rattle.jobfile.specs.Numeral.{numeral, groups, numerals, lastGroup}
-use Rattle.jobfile.specs.File.{readN, readM, fileRacks, fileBytes, filePlaces, fileCards, fileChecks, readChecks, read}
-use Rattle.jobfile.proofs.Legal.{file-legal}
-use Rattle.jobreader.specs.Reading.{ahead, JobRead}
-use Rattle.jobreader.specs.declared.Reader.{Reader}
-use Rattle.jobreader.specs.declared.JobFile.{JobFile}
+use Rattle.numerals.specs.Numeral.{numeral, groups, numerals, lastGroup}
+use Rattle.parsing.specs.File.{readN, readM, fileRacks, fileBytes, filePlaces, fileCards, fileChecks, readChecks, read}
+use Rattle.parsing.proofs.Legal.{file-legal}
+use Rattle.jobfile.specs.Reading.{ahead, JobRead}
+use Rattle.jobfile.specs.declared.Reader.{Reader}
+use Rattle.jobfile.specs.declared.JobFile.{JobFile}
 use Rattle.texts.specs.Lines.{refusedLine, phaseLine, phaseLines, copiesLine}
 use Rattle.texts.proofs.Spelling.{refused-one}
 use Rattle.runtexts.specs.RunText.{runText}

@@ -10,7 +10,7 @@ use Rattle.racks.specs.Racks.{Rack, ofCaps}
 use Rattle.racks.proofs.LegalTable.{spared-caps}
 use Rattle.moves.specs.Moves.{Held, carried}
 use Rattle.moves.proofs.Carry.{in-turn-take, in-turn-moving, stands-carried, owes-carried}
-use Rattle.runs.proofs.Owing.{awaits-owes}
+use Rattle.owed.proofs.Owing.{awaits-owes}
 use Rattle.demands.specs.Accepted.{Accepted}
 use Rattle.demands.specs.Calls.{Call, heldAfter, made}
 use Rattle.demands.specs.Demand3.{Demand3, point}

@@ -11,9 +11,9 @@ use Rattle.counting.specs.Tests.{pick}
 use Rattle.counting.specs.Checks.{Check, first, refusal, done}
 use Rattle.counting.proofs.Checks.{first-none}
 use Rattle.racks.specs.Racks.{Rack, ofCaps, slots}
-use Rattle.jobfile.specs.Numeral.{numeral, Numerals, numerals}
-use Rattle.jobfile.specs.File.{wrongN, wrongB, wrongM, wrongEntry, readN, readB, readM, readEntries, fileRacks, fileBytes, filePlaces, fileCards, fileChecks}
-use Rattle.jobfile.proofs.Numerals.{either, alone}
+use Rattle.numerals.specs.Numeral.{numeral, Numerals, numerals}
+use Rattle.parsing.specs.File.{wrongN, wrongB, wrongM, wrongEntry, readN, readB, readM, readEntries, fileRacks, fileBytes, filePlaces, fileCards, fileChecks}
+use Rattle.numerals.proofs.Numerals.{either, alone}
 use Rattle.demands.specs.Rows.{Row, Numbered, Given}
 use Rattle.demands.specs.Conditions.{TwoNameOne}
 use Rattle.demands.specs.FileConditions.{formRows, askN, askB, askM, askEntry, numeralRows, fileRows}

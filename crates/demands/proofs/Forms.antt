@@ -12,8 +12,8 @@ use lib.ListN.{length, getD}
 use Rattle.counting.specs.Count.{sum}
 use Rattle.counting.specs.Checks.{first}
 use Rattle.counting.proofs.Select.{sum-zero, sum-suc}
-use Rattle.jobfile.specs.Numeral.{Got, refused, groups, numeral, lastGroup}
-use Rattle.jobfile.proofs.Groups.{last-some, last-14, last-only, group-15, group-last, group-more, group-14}
+use Rattle.numerals.specs.Numeral.{Got, refused, groups, numeral, lastGroup}
+use Rattle.numerals.proofs.Groups.{last-some, last-14, last-only, group-15, group-last, group-more, group-14}
 use Rattle.demands.specs.Rows.{Given}
 use Rattle.demands.specs.FileConditions.{Follows, Padded, TooLong, CutShort, EndsWith, sevenBits, valueOf, formRows}
 use Rattle.demands.proofs.Rows.{given-none, given-row}

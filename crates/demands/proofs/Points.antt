@@ -32,7 +32,7 @@ use Rattle.moves.proofs.Moved.{to-moved}
 use Rattle.moves.specs.Turns.{InTurn}
 use Rattle.moves.proofs.Carry.{in-turn-take, in-turn-moving, aways-carried, carried-append}
 use Rattle.moves.specs.Turns.InTurn.{stop, next}
-use Rattle.moves.proofs.Ends.{allowed-ends}
+use Rattle.mover.proofs.Ends.{allowed-ends}
 use Rattle.moves.proofs.Kept.{card-carried}
 use Rattle.demands.proofs.Calls.{Start, start-legal, start-long, start-carried, move-number}
 

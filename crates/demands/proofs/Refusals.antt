@@ -14,17 +14,17 @@ use Rattle.factors.specs.Copies.{copied}
 use Rattle.shuffle.specs.Shuffle.{shuffled}
 use Rattle.runs.specs.Run.{ran}
 use Rattle.answers.specs.declared.Answer.{Answer}
-use Rattle.jobfile.specs.File.{Read, read}
-use Rattle.jobfile.specs.Numeral.{Got, numeral}
-use Rattle.jobfile.specs.Answers.{gotOf}
-use Rattle.jobfile.specs.declared.Numeral.{Numeral}
-use Rattle.jobfile.specs.declared.Numeral.the-variants.{Value, Refused}
-use Rattle.jobreader.specs.Reading.{placeAfter, Stepped, Next, ahead, JobRead}
-use Rattle.jobreader.specs.declared.Reader.{Reader}
-use Rattle.jobreader.specs.declared.Step.{Step}
-use Rattle.jobreader.specs.declared.JobFile.{JobFile}
+use Rattle.parsing.specs.File.{Read, read}
+use Rattle.numerals.specs.Numeral.{Got, numeral}
+use Rattle.numerals.specs.Numeral.{gotOf}
+use Rattle.numerals.specs.declared.Numeral.{Numeral}
+use Rattle.numerals.specs.declared.Numeral.the-variants.{Value, Refused}
+use Rattle.jobfile.specs.Reading.{placeAfter, Stepped, Next, ahead, JobRead}
+use Rattle.jobfile.specs.declared.Reader.{Reader}
+use Rattle.jobfile.specs.declared.Step.{Step}
+use Rattle.jobfile.specs.declared.JobFile.{JobFile}
 use Rattle.listing.specs.Listing.{handedOver, printed}
-use Rattle.demands.specs.OneOutcome.{jobSeen}
+use Rattle.jobfile.specs.Reading.{jobSeen}
 use Rattle.demands.specs.Demand1.{refusedWith, Refusals}
 
 -- a file that is refused

@@ -19,19 +19,19 @@ use Rattle.moves.specs.Phases.{budgeted}
 use Rattle.factors.specs.Copies.{copyList, copied}
 use Rattle.shuffle.specs.Shuffle.{shuffled}
 use Rattle.runs.specs.Run.{ran}
-use Rattle.jobfile.specs.Numeral.{numeral}
-use Rattle.jobfile.specs.File.{fileRacks, fileBytes, read}
-use Rattle.jobfile.specs.declared.Numeral.{Numeral}
-use Rattle.jobfile.specs.declared.Numeral.the-variants.{Refused}
-use Rattle.jobreader.specs.Reading.{Stepped, Next, ahead, JobRead}
-use Rattle.jobreader.specs.declared.Reader.{Reader}
-use Rattle.jobreader.specs.declared.Step.{Step}
-use Rattle.jobreader.specs.declared.JobFile.{JobFile}
+use Rattle.numerals.specs.Numeral.{numeral}
+use Rattle.parsing.specs.File.{fileRacks, fileBytes, read}
+use Rattle.numerals.specs.declared.Numeral.{Numeral}
+use Rattle.numerals.specs.declared.Numeral.the-variants.{Refused}
+use Rattle.jobfile.specs.Reading.{Stepped, Next, ahead, JobRead}
+use Rattle.jobfile.specs.declared.Reader.{Reader}
+use Rattle.jobfile.specs.declared.Step.{Step}
+use Rattle.jobfile.specs.declared.JobFile.{JobFile}
 use Rattle.texts.specs.Lines.{refusedLine}
 use Rattle.runtexts.specs.RunText.{runText}
 use Rattle.listing.specs.Listing.{fileHeld, listing, printed}
 use Rattle.demands.specs.Accepted.{Accepted}
-use Rattle.demands.specs.OneOutcome.{jobSeen}
+use Rattle.jobfile.specs.Reading.{jobSeen}
 use Rattle.demands.specs.Rows.{None, Holds, Given, _then_}
 use Rattle.demands.specs.Conditions.{UserSlot, NoSlot, CardAway, TooShort, tableRows, cardRows, endRows}
 use Rattle.demands.specs.FileConditions.{EndsWith, valueOf, formRows, fileRows, NoRoom, FileTooLarge}

@@ -18,7 +18,7 @@ use Rattle.racks.specs.Table.{dest, free, away, aways, owes, names}
 use Rattle.answers.specs.Answers.{answer, movesOf}
 use Rattle.moves.specs.Blocks.{block}
 use Rattle.moves.specs.Moves.{Held, carried, between, endChecks, moved}
-use Rattle.runs.specs.Awaits.{awaits}
+use Rattle.owed.specs.Awaits.{awaits}
 use Rattle.demands.specs.Calls.{Call, called, makes, heldAfter, made, counted}
 use Rattle.demands.specs.Calls.Call.{single, atMost}
 

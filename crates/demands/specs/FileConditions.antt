@@ -6,8 +6,8 @@ use Prim.Native.Nat.{ℕ, zero, suc, _+_, _-_, _*_, _^_, _≤_, _<_}
 use lib.ListN.{length, getD}
 use Rattle.counting.specs.Count.{sum}
 use Rattle.racks.specs.Racks.{Rack, ofCaps, slots}
-use Rattle.jobfile.specs.Numeral.{numeral}
-use Rattle.jobfile.specs.File.{readN, readB, readM, fileRacks, fileBytes, filePlaces, fileCards}
+use Rattle.numerals.specs.Numeral.{numeral}
+use Rattle.parsing.specs.File.{readN, readB, readM, fileRacks, fileBytes, filePlaces, fileCards}
 use Rattle.demands.specs.Rows.{Row, _then_}
 use Rattle.demands.specs.Conditions.{UserSlot, WrongN, WrongB, TooMany, TwoNameOne}
 

@@ -4,6 +4,7 @@ use mathlib.Core.Path.{_≡_}
 use mathlib.Core.List.{List}
 use Prim.Native.Nat.{ℕ}
 use denote.Ref.{RefT, now}
+use Rattle.counting.specs.One.{One, OneSeen}
 use Rattle.racks.specs.Job.{JobOf}
 use Rattle.answers.specs.Answers.{TallyNone, TallyOfMoves, TallyOfCopies, AnswerOf, AnswerDone}
 use Rattle.answers.specs.declared.Tally.{Tally}
@@ -17,11 +18,11 @@ use Rattle.factors.specs.Copies.{CopyList}
 use Rattle.shuffle.specs.Shuffle.{ShuffleCards}
 use Rattle.runs.specs.Run.{WholeRun}
 use Rattle.jobfile.specs.Answers.{ReadFile, RestOf, CardBytes}
-use Rattle.jobfile.specs.declared.Numeral.{Numeral}
-use Rattle.jobfile.specs.declared.FileAnswer.{FileAnswer}
-use Rattle.jobreader.specs.Reading.{Stepped, New, Next, JobRead}
-use Rattle.jobreader.specs.declared.Reader.{Reader}
-use Rattle.jobreader.specs.declared.JobFile.{JobFile}
+use Rattle.numerals.specs.declared.Numeral.{Numeral}
+use Rattle.parsing.specs.declared.FileAnswer.{FileAnswer}
+use Rattle.jobfile.specs.Reading.{Stepped, New, Next, JobRead, jobSeen}
+use Rattle.jobfile.specs.declared.Reader.{Reader}
+use Rattle.jobfile.specs.declared.JobFile.{JobFile}
 use Rattle.listing.specs.Listing.{ListJob}
 use Rattle.texts.specs.declared.TextAnswer.{TextAnswer}
 use Rattle.flat.specs.Flat.{answerOf, fileOf, textOf}
@@ -29,18 +30,6 @@ use Rattle.flat.specs.declared.Answer as c
 use Rattle.flat.specs.declared.FileAnswer as c-file
 use Rattle.flat.specs.declared.ListingAnswer as c-text
 use Rattle.seineflute.specs.Contracts.{LimitsGiven, SlotNumbers}
-
--- any two that are allowed are equal
-abbrev pub One : {A : Type 0} → (A → Type 0) → Type 0
-One {A} allowed = (x y : A) → allowed x → allowed y → x ≡ y
-
--- any two that are allowed are seen as equal
-abbrev pub OneSeen : {A B : Type 0} → (A → B) → (A → Type 0) → Type 0
-OneSeen {A} seen allowed = (x y : A) → allowed x → allowed y → seen x ≡ seen y
-
--- what is seen of a job that is read: the part of the file that its cards are is known by its bytes
-abbrev pub jobSeen : JobFile × List ℕ × List ℕ → Answer × ℕ × ℕ × ℕ × ℕ × List ℕ × List ℕ × List ℕ
-jobSeen (job, caps, places) = (job .answer, job .racks, job .bytes, job .slots, job .place, now (job .cards), caps, places)
 
 pub record OneOutcome : Type 0 where
   pub check-table : (caps places : List ℕ) → One (CheckTable caps places)

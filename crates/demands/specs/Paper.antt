@@ -22,8 +22,8 @@ use Rattle.moves.specs.Phases.{phasesFrom, phases, budget, budgeted}
 use Rattle.factors.specs.Copies.{next, source, following, onward, back, onCycle, head, factor, factorsFrom, factors, shift, cycle, copies, copyList}
 use Rattle.shuffle.specs.Shuffle.{taken, laid, runCopies, brought, isNamed, lastEntry, lastCard, settledHeld, copyMade}
 use Rattle.runs.specs.Run.{gathered, hasPairs, counts}
-use Rattle.jobfile.specs.Numeral.{groups, numeral, numerals, lastGroup}
-use Rattle.jobfile.specs.File.{wrongN, wrongB, wrongM, wrongEntry, entryOf, readN, readB, readM, fileRacks, readEntries, fileBytes, filePlaces, fileCards, fileChecks}
+use Rattle.numerals.specs.Numeral.{groups, numeral, numerals, lastGroup}
+use Rattle.parsing.specs.File.{wrongN, wrongB, wrongM, wrongEntry, entryOf, readN, readB, readM, fileRacks, readEntries, fileBytes, filePlaces, fileCards, fileChecks}
 use Rattle.texts.specs.Text.{digit, digits, decimal, hex}
 use Rattle.texts.specs.Lines.{slotText, arrow, phaseLine, phaseLines, copiesLine, cardText, cardsLine, endLine, refusedLine}
 use Rattle.runtexts.specs.RunText.{runText}

@@ -12,3 +12,4 @@ pub mod Walking
 pub mod Marks
 pub mod Behind
 pub mod Walked
+pub mod One

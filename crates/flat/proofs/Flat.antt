@@ -13,7 +13,7 @@ use Rattle.flat.specs.declared.SlotAnswer.{SlotAnswer}
 use Rattle.flat.specs.declared.FileAnswer.{FileAnswer}
 use Rattle.flat.specs.declared.ListingAnswer.{ListingAnswer}
 use Rattle.answers.specs.declared.Answer as layers
-use Rattle.jobfile.specs.declared.FileAnswer as jobfile
+use Rattle.parsing.specs.declared.FileAnswer as jobfile
 use Rattle.texts.specs.declared.TextAnswer as texts
 use Rattle.flat.specs.Flat.{answerOf, kindNumber, stateNumber, rackNumber, slotNumbers, fileOf, textOf}
 

@@ -6,7 +6,7 @@ use Rattle.slots.specs.declared.Kind.the-variants as kind
 use Rattle.slots.specs.declared.State.{State}
 use Rattle.slots.specs.declared.State.the-variants as state
 use Rattle.slots.specs.declared.SlotAnswer as slots
-use Rattle.jobfile.specs.declared.FileAnswer as jobfile
+use Rattle.parsing.specs.declared.FileAnswer as jobfile
 use Rattle.texts.specs.declared.TextAnswer as texts
 use Rattle.flat.specs.declared.Answer.{Answer}
 use Rattle.flat.specs.declared.SlotAnswer.{SlotAnswer}

@@ -76,7 +76,7 @@ pub fn slot_numbers(found: slots::SlotAnswer) -> SlotAnswer
 }
 
 // The file reader's answer.
-pub fn file_numbers(found: jobfile::FileAnswer) -> FileAnswer
+pub fn file_numbers(found: parsing::FileAnswer) -> FileAnswer
     ensures { λ r. ⌜ fileOf r ≡ found ⌝ }
 {
     FileAnswer {

@@ -1,4 +1,4 @@
--- Laws of the card bytes and their number. Assumes nothing.
+-- Laws of the parts of a file that are handed back. Assumes nothing.
 use mathlib.Core.Path.{_≡_, sym, _∙_}
 use mathlib.Core.List.{List, []}
 use Prim.Native.Nat.{ℕ, _-_, _≤_, _<_}
@@ -9,26 +9,8 @@ use lib.Seq.{take-all}
 use borrow.Author.Tests.{eq-eqb, ne-eqb, lt-ltb, le-ltb}
 use Rattle.counting.proofs.Checks.{first-here, first-later, first-none}
 use Rattle.jobfile.specs.Answers.{cardsOf}
-use Rattle.jobfile.specs.parts.Parsing.{leftOf, endNumber}
-use Rattle.jobfile.specs.declared.FileAnswer.{FileAnswer}
-
--- 15, 16 or 0, by the tests that the code makes
-module _ (file : List ℕ) (place want left : ℕ) (is : left ≡ leftOf file place) where
-  -- it ends too early
-  pub end-15 : left < want → 15 ≡ endNumber file place want
-  unfolding endNumber
-  end-15 l = sym (first-here _ 15 _ (lt-ltb (leftOf file place) want (omega arith)))
-
-  -- bytes are left over
-  pub end-16 : want < left → 16 ≡ endNumber file place want
-  unfolding endNumber
-  end-16 l = sym (first-later _ 15 _ (le-ltb (leftOf file place) want (omega arith)) ∙ first-here _ 16 _ (lt-ltb want (leftOf file place) (omega arith)))
-
-  -- the cards take them all
-  pub end-0 : want ≤ left → left ≤ want → 0 ≡ endNumber file place want
-  unfolding endNumber
-  end-0 l h =
-      sym (first-later _ 15 _ (le-ltb (leftOf file place) want (omega arith)) ∙ first-later _ 16 _ (le-ltb want (leftOf file place) (omega arith)) ∙ first-none)
+use Rattle.parsing.specs.parts.Parsing.{leftOf, endNumber}
+use Rattle.parsing.specs.declared.FileAnswer.{FileAnswer}
 
 -- the part of a file from a place on
 module _ (file : List ℕ) where

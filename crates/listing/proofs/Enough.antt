@@ -21,7 +21,7 @@ use Rattle.plans.specs.Plan.{plan}
 use Rattle.plans.proofs.Plans.{plan-allowed}
 use Rattle.moves.specs.Moves.{Held, carriedPlaces}
 use Rattle.moves.specs.Phases.{phasesFrom, phases}
-use Rattle.moves.specs.parts.Carrying.{AllSlots}
+use Rattle.carrying.specs.parts.Carrying.{AllSlots}
 use Rattle.moves.proofs.Phases.{phases-moves, phases-pairs}
 use Rattle.moves.proofs.FirstFit.{first-fit}
 use Rattle.factors.specs.Copies.{copyList}

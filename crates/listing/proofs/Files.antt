@@ -17,12 +17,13 @@ use Rattle.racks.proofs.LegalTable.{spared-caps}
 use Rattle.moves.specs.Moves.{held}
 use Rattle.counting.proofs.Stores.{take-front}
 use Rattle.tables.proofs.Tables.{cards-pass}
-use Rattle.jobfile.specs.File.{readM, readEntries, fileRacks, fileBytes, filePlaces, fileCards, fileChecks}
-use Rattle.jobfile.specs.Answers.{cardsOf, doneFile}
-use Rattle.jobfile.specs.parts.Parsing.{Parsed}
-use Rattle.jobfile.specs.declared.FileAnswer.{FileAnswer}
-use Rattle.jobfile.proofs.Legal.{file-legal, file-small}
-use Rattle.jobfile.proofs.Files.{answer-number}
+use Rattle.parsing.specs.File.{readM, readEntries, fileRacks, fileBytes, filePlaces, fileCards, fileChecks}
+use Rattle.jobfile.specs.Answers.{cardsOf}
+use Rattle.parsing.specs.Answers.{doneFile}
+use Rattle.parsing.specs.parts.Parsing.{Parsed}
+use Rattle.parsing.specs.declared.FileAnswer.{FileAnswer}
+use Rattle.parsing.proofs.Legal.{file-legal, file-small}
+use Rattle.parsing.proofs.Files.{answer-number}
 use Rattle.texts.specs.Lines.{refusedLine}
 use Rattle.runtexts.specs.RunText.{FILE, runText}
 use Rattle.listing.specs.Listing.{ENOUGH, programChecks, fileHeld, listing, handedOver, Printed, printedOf, printed}

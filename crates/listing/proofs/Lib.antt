@@ -2,3 +2,4 @@ pub mod Enough
 pub mod Refusals
 pub mod Handing
 pub mod Files
+pub mod One

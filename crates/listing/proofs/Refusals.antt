@@ -11,8 +11,8 @@ use Rattle.counting.specs.Every.{All}
 use Rattle.counting.specs.Every.All.{none, more}
 use mathlib.Core.Bool.{not}
 use Rattle.racks.specs.Racks.{slots}
-use Rattle.jobfile.specs.Numeral.{groups, numeral, numerals, lastGroup}
-use Rattle.jobfile.specs.File.{wrongN, wrongB, wrongM, wrongEntry, readN, readB, readM, readEntries, fileRacks, fileChecks}
+use Rattle.numerals.specs.Numeral.{groups, numeral, numerals, lastGroup}
+use Rattle.parsing.specs.File.{wrongN, wrongB, wrongM, wrongEntry, readN, readB, readM, readEntries, fileRacks, fileChecks}
 use Rattle.listing.specs.Listing.{programChecks}
 
 -- the number of a check is at most k

@@ -10,7 +10,7 @@ use Rattle.racks.specs.Numbers.{tooShort}
 use Rattle.answers.specs.Answers.{answer, noCounts, written}
 use Rattle.answers.specs.declared.Answer.{Answer}
 use Rattle.moves.specs.Moves.{Held}
-use Rattle.jobfile.specs.File.{fileRacks, fileBytes, filePlaces, fileCards, fileChecks}
+use Rattle.parsing.specs.File.{fileRacks, fileBytes, filePlaces, fileCards, fileChecks}
 use Rattle.texts.specs.Lines.{refusedLine}
 use Rattle.runtexts.specs.RunText.{FILE, runText}
 use Rattle.texts.specs.declared.TextAnswer.{TextAnswer}

@@ -21,7 +21,7 @@ pub fn put_listing(out: &mut [u8], file: &[u8]) -> usize
     }
     let mut caps = [0u16; Job::MAX_RACKS];
     let mut places = [0u16; Job::MAX_SLOTS];
-    let found = jobfile::parts::parse(file, &mut caps, &mut places);
+    let found = parsing::parts::parse(file, &mut caps, &mut places);
     let number = found.answer.number;
     if number != 0 {
         return lines::put_refused(out, 0, number);

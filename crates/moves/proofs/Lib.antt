@@ -1,15 +1,11 @@
-pub mod Flat
 pub mod Pairs
 pub mod Moved
 pub mod Blocks
-pub mod CardLoops
-pub mod Carries
 pub mod Carry
 pub mod Rooms
 pub mod Phases
 pub mod Order
 pub mod FirstFit
 pub mod Waits
-pub mod Ends
-pub mod Outcomes
 pub mod Kept
+pub mod One

@@ -13,7 +13,7 @@ use denote.Plain.{Nothing}
 use denote.Builtin.{u16}
 use denote.Slice.{finally}
 use denote.Steps.{nothing}
-use Rattle.jobreader.proofs.Lists.{Lists, Tok}
+use Rattle.jobfile.proofs.Lists.{Lists, Tok}
 
 module _ {M : Type 1} (𝓤 : URA M) (H : Heap 𝓤) (A : Atoms 𝓤) (W : Given 𝓤 H A) (z : Lists) (own : Fml) (xs ys : List ℕ) where
   -- the tokens, what is had of the parameters, and the result

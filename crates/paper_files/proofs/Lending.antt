@@ -32,10 +32,10 @@ use denote.Struct.Steps.{spelt}
 use denote.Triple.Statement.{Contract}
 use denote.Triple.Spec.{tripleOf}
 use borrow.Within.Token.{Rest, within-token, within-end}
-use Rattle.jobreader.specs.declared.Reader.{Reader}
-use Rattle.jobreader.proofs.Reader as T
-use Rattle.jobreader.proofs.Reader.Laws as T′
-use Rattle.jobreader.proofs.next as next
+use Rattle.jobfile.specs.declared.Reader.{Reader}
+use Rattle.jobfile.proofs.Reader as T
+use Rattle.jobfile.proofs.Reader.Laws as T′
+use Rattle.jobfile.proofs.next as next
 
 -- the contract of `next`
 abbrev pub Next : {M : Type 1} (𝓤 : URA M) (H : Heap 𝓤) (A : Atoms 𝓤) (mem″ : Memory → SProp 𝓤) (run : Routine → Fun 𝓤) → Contract 𝓤

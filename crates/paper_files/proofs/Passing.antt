@@ -26,10 +26,10 @@ use denote.Steps.{only, nothing}
 use denote.Triple.Statement.{Contract}
 use denote.Triple.Spec.{tripleOf}
 use denote.Triple.Clauses.{ensured}
-use Rattle.jobreader.specs.declared.Reader.{Reader}
-use Rattle.jobreader.proofs.Lists.{Lists, lfts, shares, beside, valsBeside, typesBeside, Tok₁, Tok}
-use Rattle.jobreader.proofs.Reader as T
-use Rattle.jobreader.proofs.new as new
+use Rattle.jobfile.specs.declared.Reader.{Reader}
+use Rattle.jobfile.proofs.Lists.{Lists, lfts, shares, beside, valsBeside, typesBeside, Tok₁, Tok}
+use Rattle.jobfile.proofs.Reader as T
+use Rattle.jobfile.proofs.new as new
 use Rattle.paper_files.proofs.say_job_at as at
 
 -- the reader's type, over the signature's lifetimes, and the file's lifetime as a local has it

@@ -1,11 +1,11 @@
 // Paper cards for the reader: case 8, case 1, refusals, and a job behind numerals that were read.
-use jobreader::Reader;
+use jobfile::Reader;
 
 mod say;
 
 // The job at the reader's place.
 fn say_job_at<'a>(r: Reader<'a>, caps: &mut [u16], places: &mut [u16]) {
-    let job = jobreader::read_job(r, caps, places);
+    let job = jobfile::read_job(r, caps, places);
     say::say_job(
         job.answer,
         job.racks,
@@ -18,14 +18,14 @@ fn say_job_at<'a>(r: Reader<'a>, caps: &mut [u16], places: &mut [u16]) {
 
 // The job from the start of a file.
 fn say_from_start(file: &[u8], caps: &mut [u16], places: &mut [u16]) {
-    say_job_at(jobreader::new(file), caps, places);
+    say_job_at(jobfile::new(file), caps, places);
 }
 
 // Two numerals of a file, one after another, and the job behind them.
 fn say_behind_two(file: &[u8], caps: &mut [u16], places: &mut [u16]) {
-    let mut r = jobreader::new(file);
-    let first = jobreader::next(&mut r);
-    let second = jobreader::next(&mut r);
+    let mut r = jobfile::new(file);
+    let first = jobfile::next(&mut r);
+    let second = jobfile::next(&mut r);
     say::say_numerals(first, second);
     say_job_at(r, caps, places);
 }

@@ -1,6 +1,6 @@
 // What is printed.
 use answers::Answer;
-use jobfile::Numeral;
+use numerals::Numeral;
 
 // A numeral of a file, or what it is refused with.
 fn say_numeral(n: Numeral) {

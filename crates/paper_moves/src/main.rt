@@ -11,7 +11,7 @@ fn say_move(
     from: usize,
     to: usize,
 ) {
-    let answer = moves::one_move(caps, b, places, cards, from, to);
+    let answer = mover::one_move(caps, b, places, cards, from, to);
     say_left(name, answer, places, cards);
 }
 

@@ -9,7 +9,7 @@ fn say_copies(name: &[u8], caps: &[u16], places: &[u16], lent: &mut [u16]) {
 }
 
 fn say_shuffle(name: &[u8], caps: &[u16], b: usize, places: &mut [u16], cards: &mut [u8]) {
-    let answer = shuffle::shuffle_cards(caps, b, places, cards);
+    let answer = shuffler::shuffle_cards(caps, b, places, cards);
     saying::parts::say_outcome(name, answer, places, cards);
 }
 

@@ -1,3 +1,2 @@
-pub mod Owed
 pub mod PairCount
 pub mod Planned

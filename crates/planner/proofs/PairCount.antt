@@ -14,7 +14,8 @@ use Rattle.counting.proofs.Lists.{length-join}
 use Rattle.racks.specs.Racks.{Rack, slots}
 use Rattle.racks.specs.Table.{owes}
 use Rattle.plans.specs.Plan.{other, room, planFor, plan}
-use Rattle.planner.specs.parts.Owed.{cell, Owed, grant, left, grants}
+use Rattle.owed.specs.parts.Owed.{cell, Owed}
+use Rattle.planner.specs.parts.Grants.{grant, left, grants}
 use Rattle.plans.proofs.Grants.{own-owes, owes-all, length-plan-for}
 use Rattle.plans.proofs.Plans.{plan-few}
 

@@ -6,16 +6,15 @@ ghost use Rattle.answers.specs.Answers.{listedOf};
 ghost use Rattle.racks.specs.Job.{racksOf, Fit};
 ghost use Rattle.tables.specs.parts.Tables.{Open};
 ghost use Rattle.plans.specs.Plan.{plan};
-ghost use Rattle.queues.specs.parts.Queues.{PairsWritten};
+ghost use Rattle.pairing.specs.parts.Phase.{PairsWritten};
 ghost use Rattle.planner.specs.parts.Planned.{plannedBy};
 use answers::Answer;
 use answers::Tally;
 use queues::parts::arrivals;
 use queues::parts::line;
-use queues::parts::planning;
 use racks::Job;
 
-pub mod owed;
+pub mod grants;
 
 // How many pairs the plan of a legal table has, by what the racks owe.
 pub fn count_plan(job: Job, places: &[u16], racking: &[u8; Job::MAX_SLOTS]) -> usize
@@ -23,7 +22,7 @@ pub fn count_plan(job: Job, places: &[u16], racking: &[u8; Job::MAX_SLOTS]) -> u
     ensures { λ r. ⌜ r ≡ length (plan (racksOf job) (now (places .entry))) ⌝ }
 {
     let mut owes = [0u16; Job::CELLS];
-    owed::count_pairs(job, places, racking, &mut owes)
+    grants::count_pairs(job, places, racking, &mut owes)
 }
 
 // Writes the pairs of the plan of a legal table from the front of the list, and says how many they are.
@@ -39,7 +38,7 @@ pub fn write_plan(
     let mut line = [0u16; line::LINE];
     let mut bits = [0u64; bits::parts::WORDS];
     arrivals::queue_up(job, places, racking, &mut line, &mut bits);
-    planning::plan_phase(&job.ends, &mut line, &mut bits, lent, 0)
+    pairing::parts::plan_phase(&job.ends, &mut line, &mut bits, lent, 0)
 }
 
 // The phase plan, by the job.

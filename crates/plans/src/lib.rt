@@ -1,1 +1,1 @@
-// Phases: what racks owe, and the plan of a phase. Definitions and laws; the call stands in `plans`.
+// Plans: what racks owe, and the plan of a phase; definitions and laws alone. The call stands in `planner`.

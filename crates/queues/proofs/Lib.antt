@@ -3,10 +3,7 @@ pub mod Stretch
 pub mod Line
 pub mod Openings
 pub mod Opens
-pub mod Pairing
-pub mod Planning
 pub mod OpenSlots
-pub mod Ready
 pub mod Fits
 pub mod QueueSlot
 pub mod Queueing

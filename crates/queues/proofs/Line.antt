@@ -8,7 +8,6 @@ use lib.ListN.{length, getD, set, replicate, length-set, length-replicate}
 use lib.Seq.{length-take-le, take-set-le, take-set-lt, getD-take, getD-set-same, getD-set-other, ext-getD}
 use Rattle.counting.proofs.Lists.{zeros}
 use Rattle.queues.specs.parts.Line.{Blank, queueOf, headOf, tailOf, roomOf}
-use Rattle.queues.specs.parts.Queues.{visited}
 use Rattle.queues.specs.parts.Queued.{placed}
 
 -- a list of zeros
@@ -38,48 +37,6 @@ module _ (line : List ℕ) where
   pub queue-stored : (i x : ℕ) → i < 4160 → queueOf (set line i x) ≡ set (queueOf line) i x
   unfolding queueOf
   queue-stored i x l = take-set-lt 4160 line i x l
-
--- rack p visited
-module _ (line : List ℕ) (e : length line ≡ 4352) (p r : ℕ) (l : p < 64) where
-  middle : List ℕ
-  middle = set line (4160 + p) (headOf line p + r)
-
-  pub visited-long : length (visited p r line) ≡ 4352
-  unfolding visited
-  visited-long = length-set (set line (4160 + p) (headOf line p + r)) (4288 + p) (roomOf line p - r) ∙ length-set line (4160 + p) (headOf line p + r) ∙ e
-
-  pub visited-queue : queueOf (visited p r line) ≡ queueOf line
-  unfolding visited
-  visited-queue =
-      queue-kept (set line (4160 + p) (headOf line p + r)) (4288 + p) (roomOf line p - r) (omega arith)
-      ∙ queue-kept line (4160 + p) (headOf line p + r) (omega arith)
-
-  -- any number but its two
-  visited-else : (k : ℕ) → k ≢ 4160 + p → k ≢ 4288 + p → getD (visited p r line) k 0 ≡ getD line k 0
-  unfolding visited
-  visited-else k a b =
-      getD-set-other (set line (4160 + p) (headOf line p + r)) (4288 + p) k (roomOf line p - r) 0 b
-      ∙ getD-set-other line (4160 + p) k (headOf line p + r) 0 a
-
-  pub visited-head : headOf (visited p r line) p ≡ headOf line p + r
-  unfolding visited
-  visited-head =
-      getD-set-other (set line (4160 + p) (headOf line p + r)) (4288 + p) (4160 + p) (roomOf line p - r) 0 (λ q. omega arith)
-      ∙ getD-set-same line (4160 + p) (headOf line p + r) 0 (omega arith)
-
-  pub visited-room : roomOf (visited p r line) p ≡ roomOf line p - r
-  unfolding visited
-  visited-room =
-      getD-set-same (set line (4160 + p) (headOf line p + r)) (4288 + p) (roomOf line p - r) 0 (omega (arith, length-set line (4160 + p) (headOf line p + r)))
-
-  pub visited-heads : (q : ℕ) → q < 64 → q ≢ p → headOf (visited p r line) q ≡ headOf line q
-  visited-heads q m d = visited-else (4160 + q) (λ i. d (omega arith)) (λ i. omega arith)
-
-  pub visited-tails : (q : ℕ) → q < 64 → tailOf (visited p r line) q ≡ tailOf line q
-  visited-tails q m = visited-else (4224 + q) (λ i. omega arith) (λ i. omega arith)
-
-  pub visited-rooms : (q : ℕ) → q < 64 → q ≢ p → roomOf (visited p r line) q ≡ roomOf line q
-  visited-rooms q m d = visited-else (4288 + q) (λ i. omega arith) (λ i. d (omega arith))
 
 -- rack p placed
 module _ (line : List ℕ) (e : length line ≡ 4352) (p low rooms : ℕ) (l : p < 64) where

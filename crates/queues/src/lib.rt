@@ -1,2 +1,2 @@
-// Queues: for each rack, the cards that wait to come to it; the pairs of a phase from them.
+// Queues: for each rack, the cards that wait to come to it, and the free slots as a set.
 pub mod parts;

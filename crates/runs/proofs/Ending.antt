@@ -10,12 +10,12 @@ use Rattle.racks.specs.parts.Legal.{Legal, Spared}
 use Rattle.racks.specs.Job.{jobOf}
 use Rattle.racks.specs.declared.Job.{Job}
 use Rattle.moves.specs.Moves.{Held, held}
-use Rattle.moves.proofs.Outcomes.{outcome-cards}
+use Rattle.mover.proofs.Outcomes.{outcome-cards}
 use Rattle.factors.specs.parts.Chains.{Chained}
 use Rattle.factors.proofs.Chains.{chained}
 use Rattle.shuffle.specs.Shuffle.{settledHeld}
-use Rattle.shuffle.specs.parts.Hands.{Shuffled}
-use Rattle.shuffle.proofs.Shuffles.{settled-held}
+use Rattle.shuffler.specs.parts.Settled.{Shuffled}
+use Rattle.shuffler.proofs.Shuffles.{settled-held}
 use Rattle.runs.specs.Run.{gathered, counts, ran}
 use Rattle.runs.specs.parts.Ran.{ranBy}
 use Rattle.runs.specs.parts.Gathered.{phaseCounts, PhasesMade, Ran}

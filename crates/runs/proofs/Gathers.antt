@@ -6,9 +6,7 @@ use Prim.Native.Nat.{ℕ, _*_, _≤_, _<_}
 use native.Mathlib.Omega.{arith}
 use native.Mathlib.Decide.{decLt}
 use lib.ListN.{length, getD}
-use borrow.Author.Tests.{eqb-true, eq-eqb, ne-eqb}
 use Rattle.counting.specs.Lists.{Pair, join}
-use Rattle.counting.proofs.Tests.{not-off, not-off-is}
 use Rattle.racks.specs.Racks.{Rack}
 use Rattle.racks.specs.Numbers.{someAway}
 use Rattle.racks.specs.Job.{racksOf}
@@ -19,22 +17,10 @@ use Rattle.plans.specs.Plan.{plan}
 use Rattle.bits.specs.parts.Bits.{NextOn}
 use Rattle.moves.specs.Moves.{Held}
 use Rattle.budgets.specs.parts.Engine.{Runnable, PhaseRun}
-use Rattle.runs.specs.parts.Kept.{Awaited, owing}
+use Rattle.owed.specs.parts.Kept.{Awaited, owing}
+use Rattle.owed.proofs.Owing.{none-owing}
 use Rattle.runs.specs.parts.Gathered.{Round, Closable, RoundClosed, Set, PhasesMade}
 use Rattle.runs.proofs.Rounds.{join-last, round-first, round-runnable, round-more, round-closable, round-next, round-done, awaited-some, awaited-none, awaited-falls}
-
--- a cell with no count, and one with a count
-pub owing-none : (counts : List ℕ) (k : ℕ) → getD counts k 0 ≡ 0 → owing counts k ≡ false
-unfolding owing
-owing-none counts k e = rw (eq-eqb (getD counts k 0) 0 e)
-
-pub owing-some : (counts : List ℕ) (k : ℕ) → (getD counts k 0 ≡ 0 → ⊥) → owing counts k ≡ true
-unfolding owing
-owing-some counts k f = not-off (ne-eqb (getD counts k 0) 0 f)
-
-none-owing : (counts : List ℕ) (k : ℕ) → owing counts k ≡ false → getD counts k 0 ≡ 0
-unfolding owing
-none-owing counts k e = eqb-true _ _ (not-off-is e)
 
 -- a run so far: some phases are done, and nothing is awaited before the cursor
 pub record Sofar (racks : List Rack) (ends : List ℕ) (b : ℕ) (h₀ : Held) (t : Tally) (h : Held) (racking line bits log owes awaits : List ℕ) (cells at : ℕ) : Type 0 where

@@ -28,13 +28,13 @@ use Rattle.answers.specs.declared.Tally.{Tally}
 use Rattle.answers.specs.Answers.{noCounts}
 use Rattle.plans.specs.Plan.{plan}
 use Rattle.plans.proofs.Plans.{plan-aways}
-use Rattle.planner.specs.parts.Owed.{cell, Owed}
+use Rattle.owed.specs.parts.Owed.{cell, Owed}
 use Rattle.queues.specs.parts.Queues.{rowsOf}
-use Rattle.queues.proofs.Ready.{ready-plan}
+use Rattle.pairing.proofs.Ready.{ready-plan}
 use Rattle.moves.specs.Moves.{carriedPlaces, carriedCards, between, Held, carried}
 use Rattle.moves.specs.Phases.{phases}
-use Rattle.moves.specs.parts.Carrying.{pairsIn}
-use Rattle.moves.proofs.Flat.{pairs-all}
+use Rattle.carrying.specs.parts.Carrying.{pairsIn}
+use Rattle.carrying.proofs.Flat.{pairs-all}
 use Rattle.moves.specs.Turns.{InTurn}
 use Rattle.moves.proofs.Carry.{in-turn-append, carried-append}
 use Rattle.moves.specs.Turns.InTurn.{stop}
@@ -45,10 +45,10 @@ use Rattle.budgets.proofs.NextPhase.{plan-in-turn}
 use Rattle.budgets.specs.parts.Turns.{Turn}
 use Rattle.budgets.proofs.Turns.{tally-is, going-fixed, turn-first, turn-runnable, turn-more, turn-next, held-is, moves-are}
 use Rattle.runs.specs.Run.{hasPairs, gathered}
-use Rattle.runs.specs.Awaits.{awaits}
-use Rattle.runs.specs.parts.Kept.{Awaited, owing}
+use Rattle.owed.specs.Awaits.{awaits}
+use Rattle.owed.specs.parts.Kept.{Awaited, owing}
 use Rattle.runs.specs.parts.Gathered.{phaseCounts, Logged, Round, Closable, RoundClosed, Set, PhasesMade}
-use Rattle.runs.proofs.Owing.{owed-paid, owed-payable, awaited-is, awaited-owed}
+use Rattle.owed.proofs.Owing.{owed-paid, owed-payable, awaited-is, awaited-owed}
 
 -- plans that all have pairs are counted whole
 pub all-counted : {ps : List (List Pair)} → All HasPair ps → matching hasPairs ps ≡ length ps
@@ -109,7 +109,7 @@ turn-same e l s = record {
   legal = s .legal;
   cards-long = s .cards-long;
   line-long = s .line-long;
-  room = rw l (s .room);
+  log-long = rw l (s .log-long);
   ready = λ m. s .ready (rw e at m);
   rest = rw e (s .rest);
   count = rw e (s .count);
@@ -211,7 +211,7 @@ module _ {racks : List Rack} {ends : List ℕ} {b : ℕ} {h₀ : Held} {done : L
 
       -- its pairs stand in the log
       round-pairs : pairsIn log′ (2 * t .moves) (2 * t′ .moves) ≡ ms
-      round-pairs = pairs-all log′ log (2 * t .moves) (2 * t′ .moves) ms list-is (omega (arith, moves-now, length-flat ms)) (omega (arith, round-few, next .room))
+      round-pairs = pairs-all log′ log (2 * t .moves) (2 * t′ .moves) ms list-is (omega (arith, moves-now, length-flat ms)) (omega (arith, round-few, next .log-long))
 
       in-turn : InTurn racks (h .places) ms
       in-turn = plan-in-turn (r .turn .legal)
@@ -223,7 +223,7 @@ module _ {racks : List Rack} {ends : List ℕ} {b : ℕ} {h₀ : Held} {done : L
         few = round-few;
         phases-few = round-phases;
         phases-same = phases-same;
-        room = next .room;
+        log-long = next .log-long;
         owes-long = r .owed .long;
         awaits-long = r .awaited .long;
         owes-pay = rw round-pairs (owed-payable racking (r .fixed .filled) (r .fixed .few) (r .fixed .small) (r .turn .legal) in-turn (r .owed));
@@ -251,7 +251,7 @@ module _ {racks : List Rack} {ends : List ℕ} {b : ℕ} {h₀ : Held} {done : L
               phases-count = omega (arith, ap (λ (x : Tally). x .phases) (q .counted), phases-same, r .phases-count, length-append done (ms ∷ []));
               moves-count = rw (join-last done ms) (omega (arith, moves-end, moves-now, r .moves-count, length-append (join done) ms));
               copies-none = ap (λ (x : Tally). x .copies) (q .counted) ∙ ap (λ (x : Tally). x .copies) (p .done .tally-is) ∙ r .copies-none;
-              logged = logged-more ms (r .logged) (omega (arith, round-few, moves-now, r .moves-count)) (r .turn .room) (omega (arith, round-phases, r .phases-count))
+              logged = logged-more ms (r .logged) (omega (arith, round-few, moves-now, r .moves-count)) (r .turn .log-long) (omega (arith, round-phases, r .phases-count))
                   (q .end-noted ∙ rw (list-is, ← r .moves-count, ← r .phases-count, moves-now));
               owed = owed₁;
               awaited = rw (join-last done ms) (awaited-is (r .legal₀) turned (rw (ap (λ (x : Held). x .places) all) at owed₂));

@@ -17,7 +17,6 @@ use queues::parts::arrivals;
 use queues::parts::line;
 use racks::Job;
 
-pub mod paying;
 pub mod rounds;
 
 // All phases of a legal table with its cards, logged: the tables of a run, made and lent; gives the counts of phases and moves.
@@ -35,7 +34,7 @@ pub fn make_phases(
     let mut line = [0u16; line::LINE];
     let mut bits = [0u64; bits::parts::WORDS];
     let mut owes = [0u16; Job::CELLS];
-    planner::parts::owed::count_owed(job, places, racking, &mut owes);
+    owed::parts::count_owed(job, places, racking, &mut owes);
     arrivals::queue_up(job, places, racking, &mut line, &mut bits);
     let mut awaits = owes;
     rounds::run_phases(
@@ -66,7 +65,7 @@ pub fn run_cards(
     let mut log = [0u16; Job::PAIRS];
     let made = make_phases(job, b, places, cards, racking, &mut log);
     walks::clear_sources(&mut log, places.len());
-    shuffle::parts::settle(b, places, cards, racking, &mut log, made)
+    shuffler::parts::settle(b, places, cards, racking, &mut log, made)
 }
 
 // The whole run, by the job.

@@ -8,10 +8,10 @@ use lib.ListN.{length, getD, take, drop, length-append, drop-of-length-le}
 use lib.Seq.{take-suc, drop-cons, split-at}
 use Rattle.counting.specs.Lists.{Pair, tabulate, join}
 use Rattle.counting.proofs.Lists.{join-append, getD-tabulate, length-tabulate, tabulate-is}
-use Rattle.moves.proofs.Flat.{pairs-between}
+use Rattle.carrying.proofs.Flat.{pairs-between}
 use Rattle.texts.specs.Lines.{phaseLine, phaseLines}
 use Rattle.texts.specs.parts.Writing.{Room, Wrote}
-use Rattle.moves.specs.parts.Carrying.{pairsIn}
+use Rattle.carrying.specs.parts.Carrying.{pairsIn}
 use Rattle.runs.specs.parts.Gathered.{ENDS, LOG, Logged}
 use Rattle.runtexts.specs.parts.Logs.{madeBefore, phaseIn, phasesIn, Readable}
 use Rattle.texts.proofs.Writing.{Left, room-first, left-first, left-room, left-next, left-done}

@@ -15,8 +15,8 @@ use Rattle.racks.proofs.Away.{aways-few}
 use Rattle.tables.specs.parts.Tables.{Open}
 use Rattle.moves.specs.Moves.{Held, held}
 use Rattle.moves.specs.Phases.{phases}
-use Rattle.moves.specs.parts.Carrying.{pairsIn}
-use Rattle.moves.proofs.Flat.{pairs-all}
+use Rattle.carrying.specs.parts.Carrying.{pairsIn}
+use Rattle.carrying.proofs.Flat.{pairs-all}
 use Rattle.moves.proofs.Phases.{phases-pairs, phases-moves}
 use Rattle.moves.proofs.FirstFit.{first-fit}
 use Rattle.factors.specs.Copies.{copyList}
@@ -25,7 +25,7 @@ use Rattle.copies.specs.parts.Writes.{putCopies}
 use Rattle.factors.proofs.Costs.{list-most}
 use Rattle.copies.proofs.Writing.{length-put-copies}
 use Rattle.shuffle.specs.Shuffle.{settledHeld}
-use Rattle.shuffle.specs.parts.Hands.{Shuffled}
+use Rattle.shuffler.specs.parts.Settled.{Shuffled}
 use Rattle.runs.specs.Run.{gathered, counts}
 use Rattle.runs.specs.parts.Gathered.{LOG, phaseCounts, PhasesMade, Ran}
 use Rattle.runs.proofs.Rounds.{all-counted, all-few}

@@ -90,7 +90,7 @@ pub extern "C" fn seineflute_one_move(
 ) -> Answer
     ensures { λ r. ⌜ OneMove (now (caps .entry)) b (held (now (places .entry)) (now (cards .entry))) (from, to) (outcomeOf (answerOf r) (now (places .exit)) (now (cards .exit))) ⌝ }
 {
-    let answer = moves::one_move(caps, b, places, cards, from, to);
+    let answer = mover::one_move(caps, b, places, cards, from, to);
     flat::parts::numbers_of(answer)
 }
 
@@ -128,7 +128,7 @@ pub extern "C" fn seineflute_shuffle_cards(
 ) -> Answer
     ensures { λ r. ⌜ ShuffleCards (now (caps .entry)) b (held (now (places .entry)) (now (cards .entry))) (outcomeOf (answerOf r) (now (places .exit)) (now (cards .exit))) ⌝ }
 {
-    let answer = shuffle::shuffle_cards(caps, b, places, cards);
+    let answer = shuffler::shuffle_cards(caps, b, places, cards);
     flat::parts::numbers_of(answer)
 }
 

@@ -1,5 +1,4 @@
 pub mod Fills
-pub mod Marks
 pub mod Tables
-pub mod Once
 pub mod Targets
+pub mod One

@@ -26,7 +26,7 @@ use Rattle.racks.proofs.Legal.{checks-racks, checks-places, checks-4, checks-en
 use Rattle.racks.specs.parts.Legal.{Legal}
 use Rattle.racks.proofs.LegalTable.{places-legal}
 use Rattle.tables.specs.Check.{checked}
-use Rattle.tables.specs.parts.Marks.{entriesNumber}
+use Rattle.entries.specs.parts.Marks.{entriesNumber}
 use Rattle.tables.specs.parts.Tables.{Racked, OpenCards, Checked, CardsChecked, tableNumber, cardsNumber, checkedBy}
 
 module _ (job : Job) (places : List ℕ) where

@@ -1,3 +1,1 @@
 pub mod Tables
-pub mod Marks
-pub mod Once

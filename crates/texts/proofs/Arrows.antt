@@ -9,8 +9,8 @@ use lib.ListN.{length, getD, length-append}
 use Rattle.counting.specs.Lists.{Pair, join, each}
 use Rattle.counting.specs.Every.All.{none, more}
 use Rattle.racks.specs.Limits.{HAND}
-use Rattle.moves.specs.parts.Carrying.{pairsIn, Slots, AllSlots}
-use Rattle.moves.proofs.Flat.{pairs-more, pairs-none}
+use Rattle.carrying.specs.parts.Carrying.{pairsIn, Slots, AllSlots}
+use Rattle.carrying.proofs.Flat.{pairs-more, pairs-none}
 use Rattle.texts.specs.Text.{text, decimal}
 use Rattle.texts.specs.Lines.{slotText, arrow}
 use Rattle.texts.specs.parts.Writing.{Room, Wrote}

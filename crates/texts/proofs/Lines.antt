@@ -8,7 +8,7 @@ use Rattle.counting.specs.Lists.{Pair, join, each, tabulate}
 use Rattle.counting.specs.Every.{All}
 use Rattle.counting.specs.Every.All.{none, more}
 use Rattle.answers.specs.declared.Tally.{Tally}
-use Rattle.moves.specs.parts.Carrying.{AllSlots}
+use Rattle.carrying.specs.parts.Carrying.{AllSlots}
 use Rattle.texts.specs.Text.{decimal}
 use Rattle.texts.specs.Lines.{arrow, phaseLines, copiesLine, cardText, cardsLine, endLine, refusedLine, phaseLine}
 use Rattle.texts.proofs.Digits.{length-decimal-5}

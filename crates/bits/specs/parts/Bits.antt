@@ -87,7 +87,7 @@ pub record Walking (words : List ℕ) (t at rest : ℕ) : Type 0 where
 -- a word behind that of `at` has number k of the set
 pub record Later (words : List ℕ) (at : ℕ) : Type 0 where
   pub k : ℕ
-  pub after : (at / 64 + 1) * 64 ≤ k
+  pub behind : (at / 64 + 1) * 64 ≤ k
   pub within : k < NUMBERS
   pub on : isOn words k ≡ true
 

@@ -17,12 +17,13 @@ use Rattle.answers.specs.Answers.{movesOf}
 use Rattle.tables.specs.parts.Tables.{Open}
 use Rattle.moves.specs.Moves.{Held, carried}
 use Rattle.moves.specs.Phases.{budget}
-use Rattle.moves.specs.parts.Carrying.{AllSlots, Carried}
+use Rattle.carrying.specs.parts.Carrying.{AllSlots, Carried}
 use Rattle.bits.specs.parts.Bits.{marked, cleared, WORDS}
 use Rattle.queues.specs.parts.Line.{ROOMS, roomOf, LINE}
 use Rattle.queues.specs.parts.Queued.{oneMore}
 use Rattle.queues.specs.parts.Ready.{Started}
-use Rattle.queues.specs.parts.Queues.{rowsOf, queuedPlan, Plannable, PhasePlanned}
+use Rattle.queues.specs.parts.Queues.{rowsOf}
+use Rattle.pairing.specs.parts.Phase.{queuedPlan, Plannable, PhasePlanned}
 
 -- the set of free slots after a move: with its source, and without its target
 unfoldable pub note : Pair → List ℕ → List ℕ
@@ -51,7 +52,7 @@ pub record Notable (racking : List ℕ) (m : Pair) : Type 0 where
 -- moves that can be noted: and each rack's room has place for as many more
 pub record AllNotable (racking : List ℕ) (ms : List Pair) (line bits : List ℕ) : Type 0 where
   pub moves : All (Notable racking) ms
-  pub room : (p : ℕ) → p < RACKS → roomOf line p + length ms < 65536
+  pub counts-fit : (p : ℕ) → p < RACKS → roomOf line p + length ms < 65536
   pub line-long : length line ≡ LINE
   pub bits-long : length bits ≡ WORDS
 
@@ -91,7 +92,7 @@ pub record Going (job : Job) (b : ℕ) (h : Held) (racking line bits log : List 
   pub spared : Spared (racksOf job)
   pub started : Started (racksOf job) (h .places) (job .ends) line bits
   pub cards-long : length (h .cards) ≡ slots (racksOf job) * b
-  pub room : PAIRS ≤ length log
+  pub log-long : PAIRS ≤ length log
 
 -- moves made with an allowance of k: as many as there are cards away, but no more than k
 pub record Made (racks : List Rack) (b k : ℕ) (h h′ : Held) (t : Tally) : Type 0 where

@@ -28,7 +28,7 @@ pub record Turn (racks : List Rack) (ends : List ℕ) (b k : ℕ) (h₀ : Held) 
   pub legal : Legal racks (h .places)
   pub cards-long : length (h .cards) ≡ slots racks * b
   pub line-long : length line ≡ LINE
-  pub room : PAIRS ≤ length log
+  pub log-long : PAIRS ≤ length log
   pub ready : t .moves < k → Ready racks (h .places) (rowsOf ends line bits)
   pub rest : carried b (budget racks (k - t .moves) (h .places)) h ≡ carried b (budget racks k (h₀ .places)) h₀
   pub count : t .moves + aways racks (h .places) ≡ aways racks (h₀ .places)

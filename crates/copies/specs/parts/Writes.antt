@@ -13,7 +13,8 @@ use Rattle.counting.specs.Lists.{Pair, flat}
 use Rattle.racks.specs.Numbers.{someAway, tooShort}
 use Rattle.racks.specs.Job.{racksOf}
 use Rattle.racks.specs.declared.Job.{Job}
-use Rattle.answers.specs.Answers.{copiesOf, Listed, listed}
+use Rattle.answers.specs.Answers.{copiesOf, plusCopies, Listed, listed}
+use Rattle.answers.specs.declared.Tally.{Tally}
 use Rattle.tables.specs.parts.Tables.{awayBy, tableNumber}
 use Rattle.factors.specs.Copies.{factor, copies, copyList}
 use Rattle.factors.specs.parts.Walks.{LISTED, Marked, SomeMarked}
@@ -35,15 +36,20 @@ pub record Counted (places : List ℕ) (mark k at : ℕ) (seen : List ℕ) (coun
   pub count-is : count ≡ at + length (copies places (due places mark seen k))
   pub marked : Marked mark (due places mark seen k) seen marks
 
--- the same, and they are written from copy `at` on
-pub record CopiesWritten (places : List ℕ) (mark k at : ℕ) (list seen : List ℕ) (count : ℕ) (after marks : List ℕ) : Type 0 where
-  pub counted : Counted places mark k at seen count marks
-  pub list-is : after ≡ putCopies list at (copies places (due places mark seen k))
+-- the copies due at slot k are added to the tally, its slots marked
+pub record Added (places : List ℕ) (mark k : ℕ) (seen : List ℕ) (tally after : Tally) (marks : List ℕ) : Type 0 where
+  pub count-is : after ≡ plusCopies (length (copies places (due places mark seen k))) tally
+  pub marked : Marked mark (due places mark seen k) seen marks
 
--- the whole list is written from the front, and counted; no other mark is made
-pub record AllWritten (places list seen : List ℕ) (count : ℕ) (after marks : List ℕ) : Type 0 where
-  pub count-is : count ≡ length (copyList places)
-  pub list-is : after ≡ putCopies list 0 (copyList places)
+-- the same, and they are written behind those that the tally had
+pub record CopiesWritten (places : List ℕ) (mark k : ℕ) (list seen : List ℕ) (tally after : Tally) (list′ marks : List ℕ) : Type 0 where
+  pub added : Added places mark k seen tally after marks
+  pub list-is : list′ ≡ putCopies list (tally .copies) (copies places (due places mark seen k))
+
+-- the whole list is written from the front, and added to the tally; no other mark is made
+pub record AllWritten (places list seen : List ℕ) (tally after : Tally) (list′ marks : List ℕ) : Type 0 where
+  pub count-is : after ≡ plusCopies (length (copyList places)) tally
+  pub list-is : list′ ≡ putCopies list 0 (copyList places)
   pub marked : SomeMarked LISTED seen marks
 
 -- a list of so many numbers has room for the copies

@@ -3,11 +3,13 @@ ghost use mathlib.Core.Path.{_≡_};
 ghost use mathlib.Core.List.{[], _∷_};
 ghost use Prim.Native.Nat.{_+_, _*_, _≤_, _<_};
 ghost use lib.ListN.{length};
+ghost use Rattle.answers.specs.Answers.{plusCopies};
 ghost use Rattle.racks.specs.Limits.{COPIES, SLOTS};
 ghost use Rattle.factors.specs.Copies.{next, shift, copies, copyList};
 ghost use Rattle.factors.specs.parts.Chains.{Chained};
 ghost use Rattle.factors.specs.parts.Walks.{COUNTED, LISTED, Sources, Unmarked, steps, Inside, walked, walkCount};
 ghost use Rattle.copies.specs.parts.Writes.{putCopies, due, Counted, CopiesWritten, AllWritten, fits};
+use answers::Tally;
 use factors::parts::walks;
 use racks::Job;
 
@@ -87,20 +89,21 @@ pub fn put_copy(list: &mut [u16], at: usize, from: u16, to: u16)
     list[2 * at + 1] = to;
 }
 
-// The copies of the chain of slot x and the `left` slots after it, the last card first; how many copies the list has then. The table is
-// lent as a reference to a slice, which is one register for each level of the recursion.
-pub fn write_shift(places: &&[u16], list: &mut [u16], x: usize, left: usize, at: usize) -> usize
-    requires { ⌜ Inside (now (now places)) left x × (length (now (now places)) ≤ SLOTS) × (at + left ≤ COPIES) × (2 * (at + left) ≤ length (now list)) ⌝ }
-    ensures count { λ r. ⌜ r ≡ at + left ⌝ }
-    ensures copies { λ _. ⌜ now (list .exit) ≡ putCopies (now (list .entry)) at (shift x (steps (next (now (now (places .entry)))) left x)) ⌝ }
+// The copies of the chain of slot x and the `left` slots after it, the last card first, behind those that the tally has; each is added to it
+// where it is written. The table is lent as a reference to a slice, which is one register for each level of the recursion.
+pub fn write_shift(places: &&[u16], list: &mut [u16], x: usize, left: usize, tally: Tally) -> Tally
+    requires { ⌜ Inside (now (now places)) left x × (length (now (now places)) ≤ SLOTS) × (tally .copies + left ≤ COPIES) × (2 * (tally .copies + left) ≤ length (now list)) ⌝ }
+    ensures counts { λ r. ⌜ r ≡ plusCopies left tally ⌝ }
+    ensures copies { λ _. ⌜ now (list .exit) ≡ putCopies (now (list .entry)) (tally .copies) (shift x (steps (next (now (now (places .entry)))) left x)) ⌝ }
 {
     if left == 0 {
-        return at;
+        return tally;
     }
     let y = places[x];
-    let e = write_shift(places, list, factors::parts::wide(y), left - 1, at);
-    put_copy(list, e, x as u16, y);
-    e + 1
+    let made = write_shift(places, list, factors::parts::wide(y), left - 1, tally);
+    let at = made.copies;
+    put_copy(list, at, x as u16, y);
+    made.add_copy()
 }
 
 // The copies of a factor: of a shift, or by the hand.
@@ -110,55 +113,59 @@ pub fn write_walk(
     head: usize,
     left: usize,
     end: u16,
-    at: usize,
-) -> usize
-    requires { ⌜ Inside (now places) left head × (length (now places) ≤ SLOTS) × (at + walkCount left end ≤ COPIES) × (2 * (at + walkCount left end) ≤ length (now list)) ⌝ }
-    ensures count { λ r. ⌜ r ≡ at + walkCount left end ⌝ }
-    ensures copies { λ _. ⌜ now (list .exit) ≡ putCopies (now (list .entry)) at (walked (now (places .entry)) head left end) ⌝ }
+    tally: Tally,
+) -> Tally
+    requires { ⌜ Inside (now places) left head × (length (now places) ≤ SLOTS) × (tally .copies + walkCount left end ≤ COPIES) × (2 * (tally .copies + walkCount left end) ≤ length (now list)) ⌝ }
+    ensures counts { λ r. ⌜ r ≡ plusCopies (walkCount left end) tally ⌝ }
+    ensures copies { λ _. ⌜ now (list .exit) ≡ putCopies (now (list .entry)) (tally .copies) (walked (now (places .entry)) head left end) ⌝ }
 {
     if end == Job::FREE {
-        return write_shift(&places, list, head, left, at);
+        return write_shift(&places, list, head, left, tally);
     }
-    put_copy(list, at, end, Job::HAND);
-    let e = write_shift(&places, list, head, left, at + 1);
-    put_copy(list, e, Job::HAND, head as u16);
-    e + 1
+    let first = tally.copies;
+    put_copy(list, first, end, Job::HAND);
+    let held = tally.add_copy();
+    let shifted = write_shift(&places, list, head, left, held);
+    let last = shifted.copies;
+    put_copy(list, last, Job::HAND, head as u16);
+    shifted.add_copy()
 }
 
-// The copies of the factor of slot k are written, unless it is marked.
+// The copies of the factor of slot k are written, unless it is marked; the tally with them.
 pub fn write_slot(
     places: &[u16],
     sources: &[u16],
     seen: &mut [u8; Job::MAX_SLOTS],
     list: &mut [u16],
     k: usize,
-    at: usize,
-) -> usize
-    requires { ⌜ Chained (now places) × Sources (now places) (now sources) × (k < length (now places)) × (length (now seen) ≡ SLOTS) × (at + length (copies (now places) (due (now places) LISTED (now seen) k)) ≤ COPIES) × (2 * (at + length (copies (now places) (due (now places) LISTED (now seen) k))) ≤ length (now list)) ⌝ }
-    ensures { λ r. ⌜ CopiesWritten (now (places .entry)) LISTED k at (now (list .entry)) (now (seen .entry)) r (now (list .exit)) (now (seen .exit)) ⌝ }
+    tally: Tally,
+) -> Tally
+    requires { ⌜ Chained (now places) × Sources (now places) (now sources) × (k < length (now places)) × (length (now seen) ≡ SLOTS) × (tally .copies + length (copies (now places) (due (now places) LISTED (now seen) k)) ≤ COPIES) × (2 * (tally .copies + length (copies (now places) (due (now places) LISTED (now seen) k))) ≤ length (now list)) ⌝ }
+    ensures { λ r. ⌜ CopiesWritten (now (places .entry)) LISTED k (now (list .entry)) (now (seen .entry)) tally r (now (list .exit)) (now (seen .exit)) ⌝ }
 {
     if seen[k] == walks::LISTED {
-        return at;
+        return tally;
     }
     let w = walks::walk_factor(places, sources, seen, walks::LISTED, k);
-    write_walk(places, list, w.head, w.left, w.end, at)
+    write_walk(places, list, w.head, w.left, w.end, tally)
 }
 
-// The copies of every factor, by its lowest slot, from the front of the lent list; how many there are.
+// The copies of every factor, by its lowest slot, from the front of the lent list; the tally, which has none before, with them.
 pub fn write_factors(
     places: &[u16],
     sources: &[u16],
     seen: &mut [u8; Job::MAX_SLOTS],
     list: &mut [u16],
-) -> usize
-    requires { ⌜ Chained (now places) × Sources (now places) (now sources) × Unmarked (now places) LISTED (now seen) × (2 * length (copyList (now places)) ≤ length (now list)) ⌝ }
-    ensures { λ r. ⌜ AllWritten (now (places .entry)) (now (list .entry)) (now (seen .entry)) r (now (list .exit)) (now (seen .exit)) ⌝ }
+    tally: Tally,
+) -> Tally
+    requires { ⌜ Chained (now places) × Sources (now places) (now sources) × Unmarked (now places) LISTED (now seen) × (2 * length (copyList (now places)) ≤ length (now list)) × (tally .copies ≡ 0) ⌝ }
+    ensures { λ r. ⌜ AllWritten (now (places .entry)) (now (list .entry)) (now (seen .entry)) tally r (now (list .exit)) (now (seen .exit)) ⌝ }
 {
-    let mut at: usize = 0;
+    let mut sum = tally;
     let mut k: usize = 0;
     while k < places.len() {
-        at = write_slot(places, sources, seen, list, k, at);
+        sum = write_slot(places, sources, seen, list, k, sum);
         k = k + 1;
     }
-    at
+    sum
 }

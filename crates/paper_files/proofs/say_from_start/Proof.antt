@@ -36,13 +36,13 @@ use denote.Triple.Table.{entered, cited}
 use denote.Triple.Walked.{Stays, stay-none-slice, gave-slice, walkOf, goes-none-slice, goes-gave-slice, Walks, ends-at, walked, walk-meets}
 use denote.Exit.{yes}
 use denote.Triple.Clauses.{ensured, lasts, Lasts}
-use Rattle.jobreader.specs.declared.Reader.{Reader}
-use Rattle.jobreader.proofs.Lists.{Lists, listsOf, lfts, shares, cv, pv, beside, valsBeside, typesBeside, Tok₁, Tok}
-use Rattle.jobreader.proofs.Reader as T
-use Rattle.jobreader.proofs.Reader.Laws as T′
-use Rattle.jobreader.proofs.new.Symbol as new-def
-use Rattle.jobreader.proofs.new.Symbol.{name as #jobreader·new}
-use Rattle.jobreader.proofs.new.Met as new-thm
+use Rattle.jobfile.specs.declared.Reader.{Reader}
+use Rattle.jobfile.proofs.Lists.{Lists, listsOf, lfts, shares, cv, pv, beside, valsBeside, typesBeside, Tok₁, Tok}
+use Rattle.jobfile.proofs.Reader as T
+use Rattle.jobfile.proofs.Reader.Laws as T′
+use Rattle.jobfile.proofs.new.Symbol as new-def
+use Rattle.jobfile.proofs.new.Symbol.{name as #jobfile·new}
+use Rattle.jobfile.proofs.new.Met as new-thm
 use Rattle.paper_files.proofs.Leaving.{leaves}
 use Rattle.paper_files.proofs.Passing.{B, αᵉ, fv, Own, unit-typed, New, At, to-new, to-at, goes-new, gives-new, goes-at}
 use Rattle.paper_files.proofs.say_job_at as at
@@ -64,7 +64,7 @@ module _ {M : Type 1} (𝓤 : URA M) (H : Heap 𝓤) (A : Atoms 𝓤) (W : Given
   exits : (xs ys : List ℕ) → length xs ≡ length (z .c .now) → length ys ≡ length (z .p .now) → ent 𝓤 (⋆ 𝓤 H A (Tok 𝓤 z ∷ ‵ (Own z s) ∷ ‵ (finally u16 (z .c .name) xs) ∷ ‵ (finally u16 (z .p .name) ys) ∷ [])) (Post vunit)
   exits xs ys lx ly = via 𝓤 _ (leaves 𝓤 H A W z (Own z s) xs ys) (ends-at 𝓤 H A this.ended stayed (this.clauses 𝓤 H A mem run) W ((lfts z, shares z, tt, beside z s, valsBeside z (fv s)), tt) vunit tt (tt, (xs, (ys, tt))) (tt, (lx, (ly, tt))))
 
-  module _ (C : Calls 𝓤 H) (Λ : Loops 𝓤 H) (fm : FmC 𝓤 H (W .laws) C) (known-new : Triple 𝓤 (C #jobreader·new) (New 𝓤 H A mem run)) (known-at : Triple 𝓤 (C #paper-files·say-job-at) (At 𝓤 H A mem run)) where
+  module _ (C : Calls 𝓤 H) (Λ : Loops 𝓤 H) (fm : FmC 𝓤 H (W .laws) C) (known-new : Triple 𝓤 (C #jobfile·new) (New 𝓤 H A mem run)) (known-at : Triple 𝓤 (C #paper-files·say-job-at) (At 𝓤 H A mem run)) where
     walk : Is (ShrSlice (named 0) (z .κ) u8) s (fv s ∷ []) → Room u16 (length (z .c .now)) → Room u16 (length (z .p .now)) → ent 𝓤 (onEntry 𝓤 H A this.signature (lfts z) (shares z) (beside z s) (valsBeside z (fv s))) (WpFn 𝓤 H C Λ code.function (fv s ∷ cv z ∷ pv z ∷ []) Post)
     walk is₀ gc gp =
         qed W (Tok 𝓤 z ∷ ‵ (owns (typesBeside z (ShrSlice (named 0) (z .κ) u8)) (beside z s) (valsBeside z (fv s))) ∷ []) ∵ enter ! C Λ code.function (fv s ∷ cv z ∷ pv z ∷ []) _ $
@@ -97,12 +97,12 @@ module _ {M : Type 1} (𝓤 : URA M) (H : Heap 𝓤) (A : Atoms 𝓤) (W : Given
         keep ! (0 ∷ 4 ∷ 3 ∷ 1 ∷ []) $ by ! (exits (ws .1 .0) (ws .1 .1 .0) lx ly))))))))))))))))))))
 
 module _ {M : Type 1} (𝓤 : URA M) (H : Heap 𝓤) (A : Atoms 𝓤) (W : Given 𝓤 H A) (mem : Memory → SProp 𝓤) (run : Routine → Fun 𝓤) where
-  this-walks : (C : Calls 𝓤 H) (Λ : Loops 𝓤 H) → FmC 𝓤 H (W .laws) C → Triple 𝓤 (C #jobreader·new) (New 𝓤 H A mem run) → Triple 𝓤 (C #paper-files·say-job-at) (At 𝓤 H A mem run) → Walks 𝓤 H A this.ended stayed (WpFn 𝓤 H C Λ code.function) (this.clauses 𝓤 H A mem run)
+  this-walks : (C : Calls 𝓤 H) (Λ : Loops 𝓤 H) → FmC 𝓤 H (W .laws) C → Triple 𝓤 (C #jobfile·new) (New 𝓤 H A mem run) → Triple 𝓤 (C #paper-files·say-job-at) (At 𝓤 H A mem run) → Walks 𝓤 H A this.ended stayed (WpFn 𝓤 H C Λ code.function) (this.clauses 𝓤 H A mem run)
   this-walks C Λ fm known-new known-at = walked 𝓤 H A this.ended stayed (this.clauses 𝓤 H A mem run) (WpFn 𝓤 H C Λ code.function) (λ κs. (slice-vals, (slice-vals, (slice-vals, tt))))
       (λ κs. (shr-slice-tells (named 0) (κs .0) u8, (mut-slice-tells (named 1) (κs .1 .0) u16, (mut-slice-tells (named 2) (κs .1 .1 .0) u16, tt))))
       (λ κs qs bounds a g are. via 𝓤 _ (fst∗ 𝓤 _ (emp 𝓤)) (walk 𝓤 H A W mem run (listsOf κs qs (a .1)) (a .0) C Λ fm known-new known-at (are .0) (are .1 .0 .0 .1) (are .1 .1 .0 .0 .1)))
 
-this-meets : {M : Type 1} (𝓤 : URA M) (H : Heap 𝓤) (A : Atoms 𝓤) (W : Given 𝓤 H A) (mem : Memory → SProp 𝓤) (run : Routine → Fun 𝓤) (𝓣 : Tables 𝓤 H) → Triple 𝓤 (𝓣 .C #jobreader·new) (New 𝓤 H A mem run) → Triple 𝓤 (𝓣 .C #paper-files·say-job-at) (At 𝓤 H A mem run)
+this-meets : {M : Type 1} (𝓤 : URA M) (H : Heap 𝓤) (A : Atoms 𝓤) (W : Given 𝓤 H A) (mem : Memory → SProp 𝓤) (run : Routine → Fun 𝓤) (𝓣 : Tables 𝓤 H) → Triple 𝓤 (𝓣 .C #jobfile·new) (New 𝓤 H A mem run) → Triple 𝓤 (𝓣 .C #paper-files·say-job-at) (At 𝓤 H A mem run)
     → Meets 𝓤 H A this.signature (WpFn 𝓤 H (𝓣 .C) (𝓣 .Λ) code.function) (this.spec 𝓤 H A mem run)
 this-meets 𝓤 H A W mem run 𝓣 known-new known-at = walk-meets 𝓤 H A this.ended stayed W (goes-none-slice 𝓤 H A W 3 (0 ∷ []) tt (plain (λ _. u8)) yes, (goes-gave-slice 𝓤 H A W 3 1 tt (plain (λ _. u16)), (goes-gave-slice 𝓤 H A W 3 2 tt (plain (λ _. u16)), tt))) (this.clauses 𝓤 H A mem run) (WpFn 𝓤 H (𝓣 .C) (𝓣 .Λ) code.function) (WpFn-mono 𝓤 H (W .laws) 𝓣 code.function)
     (this-walks 𝓤 H A W mem run (𝓣 .C) (𝓣 .Λ) (fmOf 𝓤 H (W .laws) 𝓣) known-new known-at)
@@ -113,5 +113,5 @@ say-from-start-spec 𝓤 H 𝓜 𝓖 𝓡 =
     entered 𝓤 H (tripleOf 𝓤 H (𝓖 .A) this.signature (this.spec 𝓤 H (𝓖 .A) (𝓜 .mem) (𝓡 .run)))
     (tables 𝓤 H 𝓜 𝓡 code.env .C) (tables 𝓤 H 𝓜 𝓡 code.env .Λ) #paper-files·say-from-start code.function (code.unfolded 𝓤 H 𝓜 𝓡)
     (this-meets 𝓤 H (𝓖 .A) (givenOf 𝓤 H 𝓜 𝓖) (𝓜 .mem) (𝓡 .run) (tablesOf 𝓤 H 𝓜 (tables 𝓤 H 𝓜 𝓡 code.env))
-    (cited 𝓤 H (New 𝓤 H (𝓖 .A) (𝓜 .mem) (𝓡 .run)) 𝓜 𝓡 code.env #jobreader·new new-def.routine code.calls-jobreader·new (new-thm.met 𝓤 H 𝓜 𝓖 𝓡))
+    (cited 𝓤 H (New 𝓤 H (𝓖 .A) (𝓜 .mem) (𝓡 .run)) 𝓜 𝓡 code.env #jobfile·new new-def.routine code.calls-jobfile·new (new-thm.met 𝓤 H 𝓜 𝓖 𝓡))
     (cited 𝓤 H (At 𝓤 H (𝓖 .A) (𝓜 .mem) (𝓡 .run)) 𝓜 𝓡 code.env #paper-files·say-job-at at-def.routine code.calls-paper-files·say-job-at (at-thm.met 𝓤 H 𝓜 𝓖 𝓡)))

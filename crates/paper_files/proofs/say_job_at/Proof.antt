@@ -44,18 +44,18 @@ use denote.Exit.{yes}
 use denote.Triple.Clauses.{ensured, lasts, Lasts}
 use Rattle.answers.proofs.Answer as An
 use Rattle.answers.proofs.Answer.Laws as An′
-use Rattle.jobreader.specs.Reading.{JobRead}
-use Rattle.jobreader.specs.declared.Reader.{Reader}
-use Rattle.jobreader.specs.declared.JobFile.{JobFile}
-use Rattle.jobreader.proofs.Lists.{Lists, listsOf, lfts, shares, cv, pv, beside, valsBeside, typesBeside, Tok₁, Tok}
-use Rattle.jobreader.proofs.Reader as T
-use Rattle.jobreader.proofs.Reader.Laws as T′
-use Rattle.jobreader.proofs.JobFile as J
-use Rattle.jobreader.proofs.JobFile.Laws as J′
-use Rattle.jobreader.proofs.read_job as reads
-use Rattle.jobreader.proofs.read_job.Symbol as reads-def
-use Rattle.jobreader.proofs.read_job.Symbol.{name as #jobreader·read-job}
-use Rattle.jobreader.proofs.read_job.Met as reads-thm
+use Rattle.jobfile.specs.Reading.{JobRead}
+use Rattle.jobfile.specs.declared.Reader.{Reader}
+use Rattle.jobfile.specs.declared.JobFile.{JobFile}
+use Rattle.jobfile.proofs.Lists.{Lists, listsOf, lfts, shares, cv, pv, beside, valsBeside, typesBeside, Tok₁, Tok}
+use Rattle.jobfile.proofs.Reader as T
+use Rattle.jobfile.proofs.Reader.Laws as T′
+use Rattle.jobfile.proofs.JobFile as J
+use Rattle.jobfile.proofs.JobFile.Laws as J′
+use Rattle.jobfile.proofs.read_job as reads
+use Rattle.jobfile.proofs.read_job.Symbol as reads-def
+use Rattle.jobfile.proofs.read_job.Symbol.{name as #jobfile·read-job}
+use Rattle.jobfile.proofs.read_job.Met as reads-thm
 use Rattle.paper_files.proofs.Leaving.{leaves}
 use Rattle.paper_files.proofs.say.say_job as says
 use Rattle.paper_files.proofs.say.say_job.Symbol as says-def
@@ -147,7 +147,7 @@ module _ {M : Type 1} (𝓤 : URA M) (H : Heap 𝓤) (A : Atoms 𝓤) (W : Given
   exits : (xs ys : List ℕ) → length xs ≡ length (z .c .now) → length ys ≡ length (z .p .now) → ent 𝓤 (⋆ 𝓤 H A (Tok 𝓤 z ∷ ‵ Own ∷ ‵ (finally u16 (z .c .name) xs) ∷ ‵ (finally u16 (z .p .name) ys) ∷ [])) (Post vunit)
   exits xs ys lx ly = via 𝓤 _ (leaves 𝓤 H A W z Own xs ys) (ends-at 𝓤 H A this.ended stayed (this.clauses 𝓤 H A mem run) W ((lfts z, shares z, tt, beside z d, valsBeside z mach), tt) vunit tt (tt, (xs, (ys, tt))) (tt, (lx, (ly, tt))))
 
-  module _ (C : Calls 𝓤 H) (Λ : Loops 𝓤 H) (fm : FmC 𝓤 H (W .laws) C) (known-reads : Triple 𝓤 (C #jobreader·read-job) (Reads 𝓤 H A mem run)) (known-says : Triple 𝓤 (C #paper-files·say·say-job) (Says 𝓤 H A mem run)) where
+  module _ (C : Calls 𝓤 H) (Λ : Loops 𝓤 H) (fm : FmC 𝓤 H (W .laws) C) (known-reads : Triple 𝓤 (C #jobfile·read-job) (Reads 𝓤 H A mem run)) (known-says : Triple 𝓤 (C #paper-files·say·say-job) (Says 𝓤 H A mem run)) where
     walk : Is (B (lfts z)) d (mach ∷ []) → Room u16 (length (z .c .now)) → Room u16 (length (z .p .now)) → ent 𝓤 (onEntry 𝓤 H A this.signature (lfts z) (shares z) (beside z d) (valsBeside z mach)) (WpFn 𝓤 H C Λ code.function (mach ∷ cv z ∷ pv z ∷ []) Post)
     walk is₀ gc gp =
         qed W (Tok 𝓤 z ∷ ‵ Owns ∷ []) ∵ enter ! C Λ code.function (mach ∷ cv z ∷ pv z ∷ []) _ $
@@ -194,13 +194,13 @@ module _ {M : Type 1} (𝓤 : URA M) (H : Heap 𝓤) (A : Atoms 𝓤) (W : Given
         split ! $ move ! (1 ∷ []) $ let-go ! $ join ! $ keep ! (0 ∷ 4 ∷ 3 ∷ 1 ∷ []) $ by ! (exits (ws .1 .0) (ws .1 .1 .0) lx ly)))))))))))))))))))))))))))
 
 module _ {M : Type 1} (𝓤 : URA M) (H : Heap 𝓤) (A : Atoms 𝓤) (W : Given 𝓤 H A) (mem : Memory → SProp 𝓤) (run : Routine → Fun 𝓤) where
-  this-walks : (C : Calls 𝓤 H) (Λ : Loops 𝓤 H) → FmC 𝓤 H (W .laws) C → Triple 𝓤 (C #jobreader·read-job) (Reads 𝓤 H A mem run) → Triple 𝓤 (C #paper-files·say·say-job) (Says 𝓤 H A mem run)
+  this-walks : (C : Calls 𝓤 H) (Λ : Loops 𝓤 H) → FmC 𝓤 H (W .laws) C → Triple 𝓤 (C #jobfile·read-job) (Reads 𝓤 H A mem run) → Triple 𝓤 (C #paper-files·say·say-job) (Says 𝓤 H A mem run)
       → Walks 𝓤 H A this.ended stayed (WpFn 𝓤 H C Λ code.function) (this.clauses 𝓤 H A mem run)
   this-walks C Λ fm known-reads known-says = walked 𝓤 H A this.ended stayed (this.clauses 𝓤 H A mem run) (WpFn 𝓤 H C Λ code.function) (λ κs. (LL.vals (T.the-type (namedLft 3 0 tt κs)) (T′.the-laws (namedLft 3 0 tt κs)), (slice-vals, (slice-vals, tt))))
       (λ κs. (LL.tells (T.the-type (namedLft 3 0 tt κs)) (T′.the-laws (namedLft 3 0 tt κs)), (mut-slice-tells (named 1) (κs .1 .0) u16, (mut-slice-tells (named 2) (κs .1 .1 .0) u16, tt))))
       (λ κs qs bounds a g are. via 𝓤 _ (fst∗ 𝓤 _ (emp 𝓤)) (walk 𝓤 H A W mem run (listsOf κs qs (a .1)) (a .0) C Λ fm known-reads known-says (are .0) (are .1 .0 .0 .1) (are .1 .1 .0 .0 .1)))
 
-this-meets : {M : Type 1} (𝓤 : URA M) (H : Heap 𝓤) (A : Atoms 𝓤) (W : Given 𝓤 H A) (mem : Memory → SProp 𝓤) (run : Routine → Fun 𝓤) (𝓣 : Tables 𝓤 H) → Triple 𝓤 (𝓣 .C #jobreader·read-job) (Reads 𝓤 H A mem run) → Triple 𝓤 (𝓣 .C #paper-files·say·say-job) (Says 𝓤 H A mem run) → Meets 𝓤 H A this.signature (WpFn 𝓤 H (𝓣 .C) (𝓣 .Λ) code.function) (this.spec 𝓤 H A mem run)
+this-meets : {M : Type 1} (𝓤 : URA M) (H : Heap 𝓤) (A : Atoms 𝓤) (W : Given 𝓤 H A) (mem : Memory → SProp 𝓤) (run : Routine → Fun 𝓤) (𝓣 : Tables 𝓤 H) → Triple 𝓤 (𝓣 .C #jobfile·read-job) (Reads 𝓤 H A mem run) → Triple 𝓤 (𝓣 .C #paper-files·say·say-job) (Says 𝓤 H A mem run) → Meets 𝓤 H A this.signature (WpFn 𝓤 H (𝓣 .C) (𝓣 .Λ) code.function) (this.spec 𝓤 H A mem run)
 this-meets 𝓤 H A W mem run 𝓣 known-reads known-says = walk-meets 𝓤 H A this.ended stayed W (goes-none 𝓤 H A W 3 B yes (λ κs x f. refl), (goes-gave-slice 𝓤 H A W 3 1 tt (plain (λ _. u16)), (goes-gave-slice 𝓤 H A W 3 2 tt (plain (λ _. u16)), tt))) (this.clauses 𝓤 H A mem run) (WpFn 𝓤 H (𝓣 .C) (𝓣 .Λ) code.function) (WpFn-mono 𝓤 H (W .laws) 𝓣 code.function) (this-walks 𝓤 H A W mem run (𝓣 .C) (𝓣 .Λ) (fmOf 𝓤 H (W .laws) 𝓣) known-reads known-says)
 
 pub say-job-at-spec : {M : Type 1} → stated.statement M
@@ -209,5 +209,5 @@ say-job-at-spec 𝓤 H 𝓜 𝓖 𝓡 =
     entered 𝓤 H (tripleOf 𝓤 H (𝓖 .A) this.signature (this.spec 𝓤 H (𝓖 .A) (𝓜 .mem) (𝓡 .run)))
     (tables 𝓤 H 𝓜 𝓡 code.env .C) (tables 𝓤 H 𝓜 𝓡 code.env .Λ) #paper-files·say-job-at code.function (code.unfolded 𝓤 H 𝓜 𝓡)
     (this-meets 𝓤 H (𝓖 .A) (givenOf 𝓤 H 𝓜 𝓖) (𝓜 .mem) (𝓡 .run) (tablesOf 𝓤 H 𝓜 (tables 𝓤 H 𝓜 𝓡 code.env))
-    (cited 𝓤 H (Reads 𝓤 H (𝓖 .A) (𝓜 .mem) (𝓡 .run)) 𝓜 𝓡 code.env #jobreader·read-job reads-def.routine code.calls-jobreader·read-job (reads-thm.met 𝓤 H 𝓜 𝓖 𝓡))
+    (cited 𝓤 H (Reads 𝓤 H (𝓖 .A) (𝓜 .mem) (𝓡 .run)) 𝓜 𝓡 code.env #jobfile·read-job reads-def.routine code.calls-jobfile·read-job (reads-thm.met 𝓤 H 𝓜 𝓖 𝓡))
     (cited 𝓤 H (Says 𝓤 H (𝓖 .A) (𝓜 .mem) (𝓡 .run)) 𝓜 𝓡 code.env #paper-files·say·say-job says-def.routine code.calls-paper-files·say·say-job (says-thm.met 𝓤 H 𝓜 𝓖 𝓡)))

@@ -5,7 +5,6 @@ ghost use Rattle.racks.specs.Limits.{SLOTS};
 ghost use Rattle.bits.specs.parts.Bits.{WORDS};
 ghost use Rattle.queues.specs.parts.Line.{Blank};
 ghost use Rattle.queues.specs.parts.Openings.{Word, Opened};
-use crate::parts::planning;
 use racks::Job;
 
 // The word of the slots from `low` up to `high`, at most 64 of them: a bit is on where its slot is free. From the last slot down, each makes
@@ -32,7 +31,7 @@ pub fn find_free(places: &[u16], bits: &mut [u64; bits::parts::WORDS])
     let mut w: usize = 0;
     while w * 64 < slots {
         let low = w * 64;
-        let high = planning::smaller(low + 64, slots);
+        let high = crate::parts::smaller(low + 64, slots);
         let word = free_word(places, low, high);
         bits::parts::fill_word(bits, w, word);
         w = w + 1;

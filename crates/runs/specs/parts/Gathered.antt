@@ -11,16 +11,16 @@ use Rattle.racks.specs.Job.{racksOf}
 use Rattle.racks.specs.declared.Job.{Job}
 use Rattle.answers.specs.declared.Tally.{Tally}
 use Rattle.answers.specs.Answers.{plusPhase}
-use Rattle.planner.specs.parts.Owed.{Owed}
+use Rattle.owed.specs.parts.Owed.{Owed}
 use Rattle.moves.specs.Moves.{Held, carried}
 use Rattle.moves.specs.Phases.{phases}
 use Rattle.moves.specs.Turns.{InTurn}
-use Rattle.moves.specs.parts.Carrying.{pairsIn}
+use Rattle.carrying.specs.parts.Carrying.{pairsIn}
 use Rattle.budgets.specs.parts.Engine.{Going}
 use Rattle.budgets.specs.parts.Turns.{Fixed, Turn}
 use Rattle.shuffle.specs.Shuffle.{settledHeld}
 use Rattle.runs.specs.Run.{hasPairs, gathered, counts}
-use Rattle.runs.specs.parts.Kept.{Payable, Paid, Awaited}
+use Rattle.owed.specs.parts.Kept.{Payable, Paid, Awaited}
 
 -- where in a run's log the moves made up to each phase's end stand, behind all pairs
 abbrev pub ENDS : ℕ
@@ -62,7 +62,7 @@ pub record Closable (before made : Tally) (racking log owes awaits : List ℕ) :
   pub few : made .moves ≤ SLOTS
   pub phases-few : before .phases < SLOTS
   pub phases-same : made .phases ≡ before .phases
-  pub room : PAIRS ≤ length log
+  pub log-long : PAIRS ≤ length log
   pub owes-long : length owes ≡ CELLS
   pub awaits-long : length awaits ≡ CELLS
   pub owes-pay : Payable racking (pairsIn log (2 * before .moves) (2 * made .moves)) owes

@@ -2,13 +2,10 @@
 ghost use mathlib.Core.Path.{_≡_};
 ghost use Prim.Native.Nat.{_+_, _≤_, _<_};
 ghost use lib.ListN.{set};
-ghost use Rattle.racks.specs.Limits.{CELLS, SLOTS};
+ghost use Rattle.racks.specs.Limits.{SLOTS};
 ghost use Rattle.racks.specs.Job.{racksOf};
-ghost use Rattle.bits.specs.parts.Bits.{NextOn};
 ghost use Rattle.moves.specs.Moves.{held};
-ghost use Rattle.runs.specs.parts.Kept.{owing};
 ghost use Rattle.runs.specs.parts.Gathered.{ENDS, LOG, Closable, RoundClosed, Set, PhasesMade};
-use crate::parts::paying;
 use answers::Tally;
 use queues::parts::line;
 use racks::Job;
@@ -24,22 +21,6 @@ pub fn log_agrees()
     ensures { λ _. do ⌜ ENDS ≡ (← ⟦ENDS⟧ .entry) ⌝ }
     ensures { λ _. do ⌜ LOG ≡ (← ⟦LOG⟧ .entry) ⌝ }
 {}
-
-// The first cell of the table from `cell` on in which something is awaited; `cells` where there is none. The counts only fall, so a run looks
-// at each cell once.
-fn next_awaited(awaits: &[u16; Job::CELLS], cell: usize, cells: usize) -> usize
-    requires { ⌜ (cell ≤ cells) × (cells ≤ CELLS) ⌝ }
-    ensures { λ r. ⌜ NextOn (owing (now (awaits .entry))) cell cells r ⌝ }
-{
-    let mut k = cell;
-    while k < cells {
-        if awaits[k] != 0 {
-            return k;
-        }
-        k = k + 1;
-    }
-    cells
-}
 
 // The moves made up to the end of phase j, noted where the log has room for it: none but a listing reads the ends.
 fn note_end(log: &mut [u16], j: usize, moves: usize)
@@ -67,7 +48,7 @@ fn close_round(
 {
     let low = 2 * before.moves;
     let high = 2 * made.moves;
-    paying::pay_moves(log, low, high, racking, owes, awaits);
+    owed::parts::pay_moves(log, low, high, racking, owes, awaits);
     note_end(log, before.phases, made.moves);
     made.add_phase()
 }
@@ -90,7 +71,7 @@ pub fn run_phases(
 {
     let cells = job.racks * Job::MAX_RACKS;
     let mut tally = Tally::none();
-    let mut cell = next_awaited(awaits, 0, cells);
+    let mut cell = owed::parts::next_awaited(awaits, 0, cells);
     while cell < cells {
         let made = budgets::parts::run_phase(
             &job.ends,
@@ -105,7 +86,7 @@ pub fn run_phases(
             log,
         );
         tally = close_round(tally, made, racking, log, owes, awaits);
-        cell = next_awaited(awaits, cell, cells);
+        cell = owed::parts::next_awaited(awaits, cell, cells);
     }
     tally
 }

@@ -4,7 +4,7 @@ use Prim.Native.Nat.{ℕ, zero, suc, _+_, _*_, _≤_, _<_}
 use lib.ListN.{length, getD}
 use Rattle.counting.specs.Lists.{Pair, tabulate}
 use Rattle.racks.specs.Limits.{SLOTS}
-use Rattle.moves.specs.parts.Carrying.{pairsIn}
+use Rattle.carrying.specs.parts.Carrying.{pairsIn}
 use Rattle.runs.specs.parts.Gathered.{ENDS, LOG}
 
 -- how many moves were made before phase j

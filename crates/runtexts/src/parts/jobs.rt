@@ -59,7 +59,7 @@ pub fn put_run(
     let mut next = phasing::put_phases(out, &log, made.phases);
     next = put_copy_list(out, next, places, racking, &mut log);
     walks::clear_sources(&mut log, places.len());
-    let tally = shuffle::parts::settle(b, places, cards, racking, &mut log, made);
+    let tally = shuffler::parts::settle(b, places, cards, racking, &mut log, made);
     next = lines::put_cards(out, next, places.len(), b, cards);
     lines::put_end(out, next, tally)
 }

@@ -1,7 +1,7 @@
 -- `seineflute::seineflute_read_file` meets its contract. Assumes nothing.
 use mathlib.Core.Path.{ap, _∙_}
 use Rattle.jobfile.specs.Answers.{readOf}
-use Rattle.jobfile.specs.declared.FileAnswer.{FileAnswer}
+use Rattle.parsing.specs.declared.FileAnswer.{FileAnswer}
 use borrow.Author.Needs.{needs}
 use Rattle.seineflute.proofs.seineflute_read_file.Statement.{statement}
 use Rattle.seineflute.proofs.seineflute_read_file.Tie as tie

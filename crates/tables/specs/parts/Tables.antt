@@ -5,12 +5,12 @@ use mathlib.Core.List.{List, _∷_}
 use Prim.Native.Nat.{ℕ, _*_, _≤_, _<_}
 use lib.Dec.{eqb}
 use lib.ListN.{length, getD}
-use Rattle.counting.specs.Tests.{_or_, bit, pick}
+use Rattle.counting.specs.Tests.{_or_, pick}
 use Rattle.counting.specs.Checks.{first, refusal}
 use Rattle.answers.specs.Answers.{answer, noCounts}
 use Rattle.answers.specs.declared.Answer.{Answer}
 use Rattle.racks.specs.Limits.{BYTES, SLOTS, FREE}
-use Rattle.racks.specs.Racks.{Rack, slots, rackOf, isUser}
+use Rattle.racks.specs.Racks.{Rack, slots, rackOf}
 use Rattle.racks.specs.Table.{dest}
 use Rattle.racks.specs.parts.Legal.{Legal}
 use Rattle.racks.specs.Numbers.{badBytes, badPlaces, badCards, entryChecks, placesChecks}
@@ -37,18 +37,6 @@ Filled racks racking = (g : ℕ) → g < slots racks → getD racking g 0 ≡ ra
 pub record Racked (racks : List Rack) (racking : List ℕ) : Type 0 where
   pub filled : Filled racks racking
   pub long : length racking ≡ SLOTS
-
--- the list has 1 at each user slot and 0 elsewhere
-pub record UsersMarked (racks : List Rack) (list : List ℕ) : Type 0 where
-  pub marks : (g : ℕ) → g < SLOTS → getD list g 0 ≡ bit (isUser racks g)
-  pub long : length list ≡ SLOTS
-
--- the list has the value from low up to high, elsewhere what it had, and its length
-pub record Between (low high value : ℕ) (before after : List ℕ) : Type 0 where
-  pub inside : (g : ℕ) → low ≤ g → g < high → getD after g 0 ≡ value
-  pub below : (g : ℕ) → g < low → getD after g 0 ≡ getD before g 0
-  pub above : (g : ℕ) → high ≤ g → low ≤ g → getD after g 0 ≡ getD before g 0
-  pub long : length after ≡ length before
 
 -- what acceptance gives: a sound job, a legal table, and each slot's rack in a list for all slots
 pub record Open (job : Job) (places racking : List ℕ) : Type 0 where

@@ -2,7 +2,7 @@
 ghost use Prim.Native.Nat.{_≤_};
 ghost use lib.ListN.{length};
 ghost use Rattle.counting.specs.Lists.{join, each};
-ghost use Rattle.moves.specs.parts.Carrying.{pairsIn};
+ghost use Rattle.carrying.specs.parts.Carrying.{pairsIn};
 ghost use Rattle.texts.specs.Lines.{slotText, arrow};
 ghost use Rattle.texts.specs.parts.Writing.{Room, Wrote};
 use crate::parts::words;

@@ -4,7 +4,7 @@ ghost use Prim.Native.Nat.{_+_, _*_, _≤_};
 ghost use lib.ListN.{length};
 ghost use Rattle.counting.specs.Lists.{join, each, tabulate};
 ghost use Rattle.moves.specs.Blocks.{block};
-ghost use Rattle.moves.specs.parts.Carrying.{pairsIn};
+ghost use Rattle.carrying.specs.parts.Carrying.{pairsIn};
 ghost use Rattle.texts.specs.Text.{hex};
 ghost use Rattle.texts.specs.Lines.{copiesLine, cardText, cardsLine, endLine, refusedLine, phaseLine};
 ghost use Rattle.texts.specs.parts.Writing.{Room, Wrote};

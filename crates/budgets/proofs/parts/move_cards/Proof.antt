@@ -11,7 +11,7 @@ slice-aggregate-run-moves : tie.Need-slice-aggregate-run-moves
 slice-aggregate-run-moves c = search needs
 
 run-moves-requires : tie.Need-run-moves-requires
-run-moves-requires c κs = let s = c .before .before .before .before .before .before .before .before .before .before .before in record { opened = s .pre .0; spared = s .pre .1; started = c .before .before .before .before .before .queue-up .ensures; cards-long = s .pre .2; room = omega arith }
+run-moves-requires c κs = let s = c .before .before .before .before .before .before .before .before .before .before .before in record { opened = s .pre .0; spared = s .pre .1; started = c .before .before .before .before .before .queue-up .ensures; cards-long = s .pre .2; log-long = omega arith }
 
 same-length : tie.Need-same-length
 same-length c = search needs

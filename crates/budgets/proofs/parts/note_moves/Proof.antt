@@ -2,7 +2,7 @@ use native.Mathlib.Omega.{arith}
 use mathlib.Core.Path.{refl}
 use Prim.Native.Nat.{_+_, _-_, _≤_}
 use lib.ListN.{length, getD}
-use Rattle.moves.specs.parts.Carrying.{pairsIn}
+use Rattle.carrying.specs.parts.Carrying.{pairsIn}
 use Rattle.budgets.specs.parts.Engine.{noted, notedLine, Notable}
 use Rattle.budgets.proofs.PhaseRuns.{Noting, noting-first, noting-room, noting-more, noting-line, noting-bits}
 use Rattle.budgets.proofs.parts.note_moves.Statement.{statement}

@@ -1,7 +1,5 @@
 use Rattle.factors.proofs.Sourced.{made-none}
-use Rattle.answers.specs.Answers.{plusCopies}
-use mathlib.Core.Path.{refl, ap, _∙_}
-use Prim.Native.Nat.{ℕ}
+use mathlib.Core.Path.{refl}
 use borrow.Author.Needs.{needs}
 use Rattle.copies.proofs.parts.list_copies.Statement.{statement}
 use Rattle.copies.proofs.parts.list_copies.Tie as tie
@@ -18,17 +16,11 @@ slice-aggregate-write-factors c = search needs
 write-factors-requires : tie.Need-write-factors-requires
 write-factors-requires c κs = search needs
 
-add-copies-requires : tie.Need-add-copies-requires
-add-copies-requires c κs = search needs
-
 same-length : tie.Need-same-length
 same-length c = search needs
 
 returns : tie.Need-returns
-returns c =
-    let s = c .before .before .before .before .before .before .before .before .before .before .before .before in
-    let w = c .before .before .before .write-factors .ensures in
-    (c .add-copies .ensures ∙ ap (λ (n : ℕ). plusCopies n (s .args .tally)) (w .count-is), (w .list-is, w .marked))
+returns c = search needs
 
 pub list-copies-spec : {M : Type 1} → statement M
 list-copies-spec =
@@ -38,6 +30,5 @@ list-copies-spec =
     fill-sources-requires
     slice-aggregate-write-factors
     write-factors-requires
-    add-copies-requires
     same-length
     returns)

@@ -1,10 +1,7 @@
 use Rattle.copies.proofs.Copied.{fits-room, here-short, here-done}
-use Rattle.copies.proofs.Progress.{few-copies}
 use Rattle.factors.proofs.Sourced.{made-none}
 use Rattle.answers.specs.declared.Tally.{Tally}
-use Rattle.answers.specs.Answers.{plusCopies}
 use mathlib.Core.Path.{refl, sym, ap, _∙_}
-use native.Mathlib.Omega.{arith}
 use borrow.Author.Needs.{needs}
 use Rattle.copies.proofs.parts.list_counted.Statement.{statement}
 use Rattle.copies.proofs.parts.list_counted.Tie as tie
@@ -21,22 +18,22 @@ slice-aggregate-has-room c = search needs
 has-room-requires : tie.Need-has-room-requires
 has-room-requires c κs = search needs
 
+none-requires : tie.Need-none-requires
+none-requires c κs = search needs
+
 slice-aggregate-write-factors : tie.Need-slice-aggregate-write-factors
 slice-aggregate-write-factors c = search needs
 
 write-factors-requires : tie.Need-write-factors-requires
 write-factors-requires c κs =
-    let s = c .before .before .before .before .before .before .before .before .before .before .before .before in
-    let r = c .before .before .before .before .has-room in
-    (s .pre .0, c .before .before .before .before .before .before .before .before .fill-sources .ensures, r .ensures .1, fits-room (s .args .places .now) (s .args .lent .now) (sym (r .ensures .0) ∙ c .before .before .before .if1 .taken))
-
-none-requires : tie.Need-none-requires
-none-requires c κs = search needs
-
-add-copies-requires : tie.Need-add-copies-requires
-add-copies-requires c κs =
-    let w = c .before .before .before .write-factors .ensures in
-    omega (arith, w .count-is, few-copies (c .before .before .before .before .before .before .before .before .before .before .before .before .before .before .before .before .pre .0), ap (λ (t : Tally). t .copies) (c .none .ensures))
+    let s = c .before .before .before .before .before .before .before .before .before .before .before .before .before in
+    let r = c .before .before .before .before .before .has-room .ensures in (
+      s .pre .0,
+      c .before .before .before .before .before .before .before .before .before .fill-sources .ensures,
+      r .1,
+      fits-room (s .args .places .now) (s .args .lent .now) (sym (r .0) ∙ c .before .before .before .before .if1 .taken),
+      ap (λ (t : Tally). t .copies) (c .before .before .before .none .ensures),
+    )
 
 done-requires : tie.Need-done-requires
 done-requires c κs = search needs
@@ -46,9 +43,8 @@ same-length c = search needs
 
 returns : tie.Need-returns
 returns c =
-    let s = c .before .before .before .before .before .before .before .before .before .before .before .before .before .before .before .before .before .before in
-    let a = c .before .add-copies .ensures ∙ ap (plusCopies _) (c .before .before .none .ensures) in
-    here-done (s .args .places .now) (s .args .lent .now) (sym (c .before .before .before .before .before .before .before .before .before .before .has-room .ensures .0) ∙ c .before .before .before .before .before .before .before .before .before .if1 .taken) _ _ _ _ _ _ (c .done .ensures) a (c .before .before .before .before .before .write-factors .ensures)
+    let s = c .before .before .before .before .before .before .before .before .before .before .before .before .before .before .before .before .before in
+    here-done (s .args .places .now) (s .args .lent .now) (sym (c .before .before .before .before .before .before .before .before .before .has-room .ensures .0) ∙ c .before .before .before .before .before .before .before .before .if1 .taken) _ _ _ _ _ _ (c .done .ensures) (c .before .before .before .before .before .before .before .none .ensures) (c .before .before .before .write-factors .ensures)
 
 of-requires : tie.Need-of-requires
 of-requires c κs = search needs
@@ -66,10 +62,9 @@ list-counted-spec =
     fill-sources-requires
     slice-aggregate-has-room
     has-room-requires
+    none-requires
     slice-aggregate-write-factors
     write-factors-requires
-    none-requires
-    add-copies-requires
     done-requires
     same-length
     returns

@@ -2,7 +2,7 @@ use native.Mathlib.Omega.{arith}
 use borrow.Author.Needs.{needs}
 use Rattle.racks.specs.Job.{racksOf}
 use Rattle.queues.proofs.Line.{blank-zeros}
-use Rattle.queues.proofs.Ready.{ready-plan, ready-written}
+use Rattle.pairing.proofs.Ready.{ready-plan, ready-written}
 use Rattle.planner.proofs.parts.write_plan.Statement.{statement}
 use Rattle.planner.proofs.parts.write_plan.Tie as tie
 

@@ -13,7 +13,7 @@ queue-up-requires c κs = (c .before .before .before .before .before .before .be
 run-phases-requires : tie.Need-run-phases-requires
 run-phases-requires c κs = let s = c .before .before .before .before .before .before .before .before .before .before .before .before .before .before .before .before .before in
     record {
-      going = record { opened = s .pre .0; spared = s .pre .1; started = c .before .before .before .before .before .before .before .queue-up .ensures; cards-long = s .pre .2; room = s .pre .3 };
+      going = record { opened = s .pre .0; spared = s .pre .1; started = c .before .before .before .before .before .before .before .queue-up .ensures; cards-long = s .pre .2; log-long = s .pre .3 };
       owed = c .before .before .before .before .before .before .before .before .before .before .before .count-owed .ensures;
       agree = refl;
     }

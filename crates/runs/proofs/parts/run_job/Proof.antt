@@ -3,7 +3,7 @@ use Rattle.racks.specs.Job.{racksOf}
 use Rattle.racks.proofs.Jobs.{sound-refused}
 use Rattle.tables.specs.parts.Tables.{OpenCards, cardsNumber}
 use Rattle.moves.specs.Moves.{held}
-use Rattle.moves.proofs.Outcomes.{outcome-refused, outcome-done}
+use Rattle.mover.proofs.Outcomes.{outcome-refused, outcome-done}
 use Rattle.shuffle.specs.Shuffle.{settledHeld}
 use Rattle.runs.specs.Run.{gathered, counts}
 use Rattle.runs.specs.parts.Ran.{ranBy}

@@ -4,7 +4,9 @@ use borrow.Fn.PlainCycle.{Measures}
 use mathlib.Core.Path.{_≡_, _∙_}
 use Prim.Native.Nat.{ℕ, _<_}
 use native.Mathlib.Omega.{arith}
+use Rattle.answers.proofs.Tally.add_copy.Reads as add-copy
 use Rattle.factors.proofs.Walked.{inside-here, inside-next}
+use Rattle.copies.proofs.Tallied.{plus-none, plus-count, plus-both}
 use Rattle.copies.proofs.Writing.{shift-none, shift-more, put-long}
 use Rattle.factors.proofs.parts.wide.Reads as wide
 use Rattle.copies.proofs.parts.lists.put_copy.Reads as put-copy
@@ -20,14 +22,14 @@ slots-left κs a = a .1 .1 .1 .0
 module _ (t : ℕ) where
   -- the calls that one with t slots left makes, its own with fewer
   abbrev calls : lts.Claims
-  calls = (wide.Asked, wide.Learnt, λ κs a. (slots-left κs a < t) × self.Pre κs a, self.Post, put-copy.Asked, put-copy.Learnt)
+  calls = (wide.Asked, wide.Learnt, λ κs a. (slots-left κs a < t) × self.Pre κs a, self.Post, put-copy.Asked, put-copy.Learnt, add-copy.Asked, add-copy.Learnt)
 
   -- a call with t slots left
   abbrev this : In 3 kinds.ps
   this κs a = (slots-left κs a ≡ t) × self.Pre κs a
 
   returns : lts.Need-returns calls this self.Post
-  returns c = (omega arith, shift-none _ _ _ _ _ (c .if1 .taken))
+  returns c = (plus-none _ _ (c .if1 .taken), shift-none _ _ _ _ _ (c .if1 .taken))
 
   mul-y : lts.Need-mul-y calls this self.Post
   mul-y c = let p = c .before .before .pre .1 in omega (arith, inside-here _ _ _ (p .0), p .1)
@@ -51,20 +53,24 @@ module _ (t : ℕ) where
 
   put-copy-requires : lts.Need-put-copy-requires calls this self.Post
   put-copy-requires c κs =
+      let p = c .before .before .before .before .before .before .before .before .before .pre .1 in
       let w = c .before .before .before .write-shift .ensures in
-      (omega (arith, w .0), omega (arith, w .0, put-long _ _ _ _ (w .1), c .before .before .before .before .before .before .before .before .before .pre .1 .3))
+      let n = plus-count _ _ _ (w .0) in
+      (omega (arith, n, p .2), omega (arith, n, put-long _ _ _ _ (w .1), p .3))
 
-  add-result : lts.Need-add-result calls this self.Post
-  add-result c = omega (arith, c .before .before .before .before .before .before .write-shift .ensures .0)
+  add-copy-requires : lts.Need-add-copy-requires calls this self.Post
+  add-copy-requires c κs = omega (arith, plus-count _ _ _ (c .before .before .before .before .before .before .write-shift .ensures .0), c .before .before .before .before .before .before .before .before .before .before .before .before .pre .1 .2)
 
   same-length : lts.Need-same-length calls this self.Post
-  same-length c = put-long _ _ _ _ (c .before .before .put-copy .ensures) ∙ put-long _ _ _ _ (c .before .before .before .before .before .before .write-shift .ensures .1)
+  same-length c = put-long _ _ _ _ (c .before .before .before .put-copy .ensures) ∙ put-long _ _ _ _ (c .before .before .before .before .before .before .before .write-shift .ensures .1)
 
   returns-2 : lts.Need-returns-2 calls this self.Post
   returns-2 c =
-      let l = c .before .before .before .before .before .before in
-      let w = l .write-shift .ensures in
-      (omega (arith, w .0), shift-more _ _ _ _ _ _ _ _ _ (l .before .before .before .before .before .before .pre .1 .0) (l .before .wide .ensures) (omega arith) (w .0) (w .1) (c .before .before .put-copy .ensures))
+      let l = c .before .before .before .before .before .before .before in
+      let w = l .write-shift .ensures in (
+        plus-both _ _ _ _ 1 _ (w .0) (c .add-copy .ensures) (omega arith),
+        shift-more _ _ _ _ _ _ _ _ _ (l .before .before .before .before .before .before .pre .1 .0) (l .before .wide .ensures) (omega arith) (plus-count _ _ _ (w .0)) (w .1) (c .before .before .before .put-copy .ensures),
+      )
 
 pub +write-shift-spec : {M : Type 1} → statement M
 +write-shift-spec =
@@ -80,6 +86,6 @@ pub +write-shift-spec : {M : Type 1} → statement M
     (write-shift-requires t)
     (cast-put-copy t)
     (put-copy-requires t)
-    (add-result t)
+    (add-copy-requires t)
     (same-length t)
     (returns-2 t)

@@ -1,4 +1,4 @@
-use Rattle.copies.proofs.Progress.{Listing, listing-start, counting-room, listing-more, listing-end, few-copies}
+use Rattle.copies.proofs.Progress.{Listing, adding-room, listing-start, listing-more, listing-end, few-copies}
 use Rattle.copies.proofs.Writing.{put-long}
 use Rattle.factors.specs.parts.Walks.{LISTED}
 use mathlib.Core.Path.{_≡_, refl, _∙_}
@@ -9,23 +9,23 @@ use Rattle.copies.proofs.parts.lists.write_factors.Statement.{statement
 use Rattle.copies.proofs.parts.lists.write_factors.Tie as tie
 
 abbrev Inv-loop : tie.InvT-loop
-Inv-loop places sources seen₀ list₀ at₀ k₀ seen list at k = (k ≤ length places) × (length list ≡ length list₀) × Listing places LISTED k at seen₀ seen list₀ list
+Inv-loop places sources seen₀ list₀ sum₀ k₀ seen list sum k = (k ≤ length places) × (length list ≡ length list₀) × Listing places LISTED k seen₀ seen list₀ list sum₀ sum
 
 abbrev μ-loop : tie.MeasureT-loop
-μ-loop places sources seen₀ list₀ at₀ k₀ seen list at k = length places - k
+μ-loop places sources seen₀ list₀ sum₀ k₀ seen list sum k = length places - k
 
 loop-holds : tie.Need-loop-holds Inv-loop μ-loop
-loop-holds c = (omega arith, refl, listing-start _ _ _ _)
+loop-holds c = (omega arith, refl, listing-start _ _ _ _ _)
 
 write-slot-requires : tie.Need-write-slot-requires Inv-loop μ-loop
 write-slot-requires c κs =
     let s = c .before .before .before .before .before .before .before in
     let l = c .before .before .before .loop in
-    let r = counting-room (s .args .places .now) LISTED (l .k) (l .at) (s .args .seen .now) (l .seen) (l .inv .2 .counting) (s .pre .2) (omega arith) in (
+    let r = adding-room (s .args .places .now) LISTED (l .k) (s .args .seen .now) (l .seen) _ _ (l .sum) (l .inv .2 .adding) (s .pre .2) (omega arith) (s .pre .4) in (
       s .pre .0,
       s .pre .1,
       omega arith,
-      l .inv .2 .counting .progress .marks .long ∙ s .pre .2 .long,
+      l .inv .2 .adding .progress .marks .long ∙ s .pre .2 .long,
       omega (arith, r, few-copies (s .pre .0)),
       omega (arith, r, s .pre .3, l .inv .1),
     )
@@ -41,13 +41,13 @@ loop-again c =
     let s = c .before .before .before .before .before .before .before .before .before .before in
     let l = c .before .before .before .before .before .before .loop in
     let w = c .before .before .write-slot .ensures in
-    (omega arith, put-long _ _ _ _ (w .list-is) ∙ l .inv .1, listing-more _ _ (l .k) _ _ _ _ _ (l .inv .2) (s .pre .2) (omega arith) _ _ _ w)
+    (omega arith, put-long _ _ _ _ (w .list-is) ∙ l .inv .1, listing-more _ _ (l .k) _ _ _ _ _ _ (l .inv .2) (s .pre .2) (s .pre .4) (omega arith) _ _ _ w)
 
 same-length : tie.Need-same-length Inv-loop μ-loop
 same-length c = c .before .loop .inv .1
 
 returns : tie.Need-returns Inv-loop μ-loop
-returns c = listing-end _ (c .before .loop .k) _ _ _ _ _ (c .before .loop .inv .2) (omega arith)
+returns c = listing-end _ (c .before .loop .k) _ _ _ _ _ _ (c .before .loop .inv .2) (omega arith)
 
 pub write-factors-spec : {M : Type 1} → statement M
 write-factors-spec =

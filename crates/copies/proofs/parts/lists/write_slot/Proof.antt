@@ -1,4 +1,4 @@
-use Rattle.copies.proofs.Progress.{written-none, counted-due, due-copies, due-count}
+use Rattle.copies.proofs.Progress.{written-none, added-due, due-copies, due-count}
 use Rattle.copies.specs.parts.Writes.{putCopies}
 use Rattle.factors.specs.parts.Walks.{LISTED}
 use mathlib.Core.Path.{sym, ap, _∙_}
@@ -33,8 +33,8 @@ returns-2 c =
     let r = c .before .before .write-walk in
     let q = c .before .before .before .before .before .before .if1 .left in
     record {
-      counted = counted-due (s .args .places .now) (s .args .seen .now) LISTED (s .args .k) q (w .result .head) (w .result .left) (w .result .end) _ (w .ensures) (s .args .at) _ (r .ensures .0);
-      list-is = r .ensures .1 ∙ ap (putCopies (s .args .list .now) (s .args .at)) (sym (due-copies (s .args .places .now) (s .args .seen .now) LISTED (s .args .k) q (w .result .head) (w .result .left) (w .result .end) _ (w .ensures)));
+      added = added-due (s .args .places .now) (s .args .seen .now) LISTED (s .args .k) q (w .result .head) (w .result .left) (w .result .end) _ (w .ensures) (s .args .tally) _ (r .ensures .0);
+      list-is = r .ensures .1 ∙ ap (putCopies (s .args .list .now) (s .args .tally .copies)) (sym (due-copies (s .args .places .now) (s .args .seen .now) LISTED (s .args .k) q (w .result .head) (w .result .left) (w .result .end) _ (w .ensures)));
     }
 
 pub write-slot-spec : {M : Type 1} → statement M

@@ -1,7 +1,7 @@
 use Prim.Native.Nat.{_≤_, _-_}
 use native.Mathlib.Omega.{arith}
 use Rattle.counting.specs.Lists.{join, each}
-use Rattle.moves.specs.parts.Carrying.{pairsIn}
+use Rattle.carrying.specs.parts.Carrying.{pairsIn}
 use Rattle.texts.specs.Lines.{arrow}
 use Rattle.texts.proofs.Writing.{Left, left-first}
 use Rattle.texts.proofs.Arrows.{arrow-room, arrow-next, arrows-done}

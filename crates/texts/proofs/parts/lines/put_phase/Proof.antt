@@ -1,5 +1,5 @@
 use native.Mathlib.Omega.{arith}
-use Rattle.moves.specs.parts.Carrying.{pairsIn}
+use Rattle.carrying.specs.parts.Carrying.{pairsIn}
 use Rattle.texts.specs.Lines.{phaseLine}
 use Rattle.texts.proofs.Writing.{wrote-then}
 use Rattle.texts.proofs.Lines.{length-phase}

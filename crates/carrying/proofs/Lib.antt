@@ -1,0 +1,3 @@
+pub mod CardLoops
+pub mod Flat
+pub mod Carries

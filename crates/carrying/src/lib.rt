@@ -1,0 +1,2 @@
+// Cards carried: bytes and entries moved from slot to slot.
+pub mod parts;

@@ -1,0 +1,231 @@
+-- Laws of the pass over the entries: the marks, and the numbers 5 and 6. Assumes nothing.
+use mathlib.Core.Path.{_≡_, refl, ap, sym, _∙_}
+use mathlib.Core.Bool.{Bool, true, false, not}
+use mathlib.Core.List.{List, [], _∷_}
+use Prim.Native.Nat.{ℕ, _+_, _≤_, _<_}
+use native.Mathlib.Omega.{arith}
+use native.Mathlib.Decide.{ℕ-discrete, decLt}
+use lib.Dec.{eqb}
+use lib.ListN.{length, getD, set, length-set, List·getD-eq-default}
+use lib.Seq.{getD-set-same, getD-set-other}
+use borrow.Author.Tests.{eq-eqb, ne-eqb}
+use borrow.Author.Count.{below-more}
+use Rattle.counting.specs.Tests.{_and_, _or_, pick}
+use Rattle.counting.specs.Count.{some}
+use Rattle.counting.specs.Checks.{first}
+use Rattle.counting.proofs.Tests.{by-test, or-r, or-false, or-l, not-on, and-off-l, no-way}
+use Rattle.counting.proofs.Some.{some-hit, some-none, some-cong, some-more, some-zero}
+use Rattle.counting.proofs.Checks.{first-here, first-later}
+use Rattle.racks.specs.Limits.{FREE}
+use Rattle.racks.specs.Racks.{Rack, slots, isUser}
+use Rattle.racks.specs.Table.{dest, free, names}
+use Rattle.racks.specs.Numbers.{badEntry, badEntries, repeats, badTwice}
+use Rattle.racks.proofs.Geometry.{user-lt}
+use Rattle.racks.proofs.Legal.{entry-cases}
+use Rattle.entries.specs.parts.Marks.{UsersMarked, markOf, numberOf, entryNumber, named, Entered, entriesNumber, worse}
+
+-- one entry, by the tests that the code makes
+module _ (marks : List ℕ) (x : ℕ) (long : length marks ≡ 4096) where
+  pub mark-beyond : 4096 ≤ x → getD marks x 0 ≡ 0
+  mark-beyond h = List·getD-eq-default marks 0 (omega arith)
+
+  unnamed : (getD marks x 0 ≡ 1 → ⊥) → marks ≡ named marks x
+  unfolding named
+  unnamed f = rw (ne-eqb (getD marks x 0) 1 f)
+
+  pub entered-free : x ≡ FREE → Entered marks x 0 marks
+  unfolding entryNumber
+  entered-free e = record { number-is = rw (eq-eqb x FREE e); marks-are = unnamed (λ q. omega (arith, mark-beyond (omega arith))) }
+
+  module _ (f : x ≡ FREE → ⊥) where
+    by-mark : entryNumber marks x ≡ numberOf (getD marks x 0)
+    unfolding entryNumber
+    by-mark = rw (ne-eqb x FREE f)
+
+    pub entered-5 : getD marks x 0 ≡ 0 → Entered marks x 5 marks
+    unfolding numberOf
+    entered-5 e = record { number-is = sym (by-mark ∙ rw e); marks-are = unnamed (λ q. omega arith) }
+
+    pub entered-6 : (getD marks x 0 ≡ 0 → ⊥) → (getD marks x 0 ≡ 1 → ⊥) → Entered marks x 6 marks
+    unfolding numberOf
+    entered-6 z o = record { number-is = sym (by-mark ∙ rw (ne-eqb (getD marks x 0) 0 z, ne-eqb (getD marks x 0) 1 o)); marks-are = unnamed o }
+
+    pub entered-0 : getD marks x 0 ≡ 1 → Entered marks x 0 (set marks x 2)
+    unfolding numberOf named
+    entered-0 e = record { number-is = sym (by-mark ∙ rw e); marks-are = rw e }
+
+-- the first g entries were passed: none is bad, the user slots that they name are marked, and `worst` is 6 where one repeats another
+pub record Passed (racks : List Rack) (places marks : List ℕ) (worst g : ℕ) : Type 0 where
+  pub clean : (k : ℕ) → k < g → badEntry racks places k ≡ false
+  pub marks-are : (v : ℕ) → v < 4096 → getD marks v 0 ≡ markOf racks places g v
+  pub worst-is : worst ≡ pick (some g (repeats places)) 6 0
+  pub long : length marks ≡ 4096
+
+pub passed-none : (racks : List Rack) (places marks : List ℕ) → UsersMarked racks marks → Passed racks places marks 0 0
+unfolding markOf
+passed-none racks places marks m =
+    record {
+      clean = λ k l. absurd (omega arith);
+      marks-are = λ v l. by-test (isUser racks v) (λ u. rw (u, some-zero (names places v)) (m .marks v l ∙ rw u)) (λ u. rw u (m .marks v l ∙ rw u));
+      worst-is = rw (some-zero (repeats places));
+      long = m .long;
+    }
+
+-- it is the first g entries alone that were passed: another table may have the same
+pub passed-cong : (racks : List Rack) (p q marks : List ℕ) (worst g : ℕ) → ((h : ℕ) → h < g → dest p h ≡ dest q h) → Passed racks p marks worst g → Passed racks q marks worst g
+unfolding badEntry repeats free names markOf
+passed-cong racks p q marks worst g e h =
+    record {
+      clean = λ k l. ap (λ (x : ℕ). not (eqb x FREE or isUser racks x)) (sym (e k l)) ∙ h .clean k l;
+      marks-are = λ v l.
+          h .marks-are v l
+          ∙ ap (λ (b : Bool). pick (isUser racks v) (pick b 2 1) 0) (some-cong g (names p v) (names q v) (λ k m. ap (λ (x : ℕ). eqb x v) (e k m)));
+      worst-is =
+          h .worst-is
+          ∙ ap (λ (b : Bool). pick b 6 0) (some-cong g (repeats p) (repeats q) (λ k l.
+          ap (λ (x : ℕ). not (eqb x FREE) and some k (names p x)) (e k l)
+          ∙ ap (λ (b : Bool). not (eqb (dest q k) FREE) and b) (some-cong k (names p (dest q k)) (names q (dest q k)) (λ j m. ap (λ (x : ℕ). eqb x (dest q k)) (e j (omega arith))))));
+      long = h .long;
+    }
+
+-- a free slot's entry repeats none
+pub repeats-free : (places : List ℕ) (g : ℕ) → dest places g ≡ FREE → repeats places g ≡ false
+unfolding repeats free
+repeats-free places g e = and-off-l _ (ap not (eq-eqb (dest places g) FREE e))
+
+module _ (racks : List Rack) (small : slots racks ≤ 4096) (places : List ℕ) (g : ℕ) where
+  -- one entry more: the slot that it names is named, the others are as before
+  other : (v : ℕ) → (dest places g ≡ v → ⊥) → markOf racks places (g + 1) v ≡ markOf racks places g v
+  unfolding markOf names
+  other v h = rw (some-more g (names places v), or-false (some g (names places v)) (ne-eqb (dest places g) v h))
+
+  same : isUser racks (dest places g) ≡ true → markOf racks places (g + 1) (dest places g) ≡ 2
+  unfolding markOf names
+  same u =
+      let x = dest places g in
+      rw (u, some-more g (names places x), or-r (some g (names places x)) (eq-eqb x x refl))
+
+  repeats-user : (dest places g ≡ FREE → ⊥) → repeats places g ≡ some g (names places (dest places g))
+  unfolding repeats free _and_
+  repeats-user f = rw (ne-eqb (dest places g) FREE f)
+
+  worse-more : (worst n : ℕ) (b : Bool) → repeats places g ≡ b → n ≡ pick b 6 0 → worst ≡ pick (some g (repeats places)) 6 0 → worse worst n ≡ pick (some (g + 1) (repeats places)) 6 0
+  unfolding worse
+  worse-more worst n true r e w = rw (e, some-more g (repeats places), or-r (some g (repeats places)) r)
+  worse-more worst n false r e w = rw (e, some-more g (repeats places), or-false (some g (repeats places)) r) w
+
+  module _ (marks : List ℕ) (worst : ℕ) (p : Passed racks places marks worst g) where
+    -- the mark of the slot that the entry names
+    mark-none : isUser racks (dest places g) ≡ false → getD marks (dest places g) 0 ≡ 0
+    unfolding markOf
+    mark-none u = elim (decLt (dest places g) 4096) [
+      | yes l ↦ p .marks-are (dest places g) l ∙ rw u
+      | no l ↦ mark-beyond marks (dest places g) (p .long) (omega arith)
+    ]
+
+    mark-user : isUser racks (dest places g) ≡ true → (b : Bool) → some g (names places (dest places g)) ≡ b → getD marks (dest places g) 0 ≡ pick b 2 1
+    unfolding markOf
+    mark-user u b e = p .marks-are (dest places g) (omega (arith, user-lt racks (dest places g) u)) ∙ rw (u, e)
+
+    -- the number of the entry, by what it is
+    module _ (n : ℕ) (after : List ℕ) (e : Entered marks (dest places g) n after) where
+      n-free : dest places g ≡ FREE → n ≡ 0
+      unfolding entryNumber
+      n-free h = e .number-is ∙ rw (eq-eqb (dest places g) FREE h)
+
+      n-card : (dest places g ≡ FREE → ⊥) → (m : ℕ) → getD marks (dest places g) 0 ≡ m → n ≡ numberOf m
+      unfolding entryNumber
+      n-card f m h = e .number-is ∙ rw (ne-eqb (dest places g) FREE f) (ap numberOf h)
+
+      n-user : (dest places g ≡ FREE → ⊥) → isUser racks (dest places g) ≡ true → (b : Bool) → some g (names places (dest places g)) ≡ b → n ≡ pick b 6 0
+      unfolding numberOf
+      n-user f u true h = n-card f 2 (mark-user u true h)
+      n-user f u false h = n-card f 1 (mark-user u false h)
+
+      -- 5 is given exactly to a bad entry
+      pub bad-5 : n ≡ 5 → badEntry racks places g ≡ true
+      bad-5 q = by-test (badEntry racks places g) (λ t. t)
+          (λ t. entry-cases racks places g t
+          (λ h. absurd (omega (arith, n-free h)))
+          (λ f u. by-test (some g (names places (dest places g)))
+          (λ b. absurd (omega (arith, n-user f u true b)))
+          (λ b. absurd (omega (arith, n-user f u false b)))))
+
+      pub clean-5 : (n ≡ 5 → ⊥) → badEntry racks places g ≡ false
+      unfolding badEntry free numberOf
+      clean-5 q = by-test (badEntry racks places g)
+          (λ t. let b = not-on t in
+          absurd (q (n-card (or-off-ne b) 0 (mark-none (or-off-user b)))))
+          (λ t. t)
+        where
+          or-off-ne : (eqb (dest places g) FREE or isUser racks (dest places g)) ≡ false → dest places g ≡ FREE → ⊥
+          or-off-ne b h = no-way (or-l (isUser racks (dest places g)) (eq-eqb (dest places g) FREE h)) b
+
+          or-off-user : (eqb (dest places g) FREE or isUser racks (dest places g)) ≡ false → isUser racks (dest places g) ≡ false
+          or-off-user b = by-test (isUser racks (dest places g)) (λ u. absurd (no-way (or-r (eqb (dest places g) FREE) u) b)) (λ u. u)
+
+      module _ (f : n ≡ 5 → ⊥) where
+        kept : (getD marks (dest places g) 0 ≡ 1 → ⊥) → after ≡ marks
+        unfolding named
+        kept h = e .marks-are ∙ rw (ne-eqb (getD marks (dest places g) 0) 1 h)
+
+        renamed : getD marks (dest places g) 0 ≡ 1 → after ≡ set marks (dest places g) 2
+        unfolding named
+        renamed h = e .marks-are ∙ rw h
+
+        -- the marks after the entry
+        after-free : dest places g ≡ FREE → (v : ℕ) → v < 4096 → getD after v 0 ≡ markOf racks places (g + 1) v
+        after-free h v l =
+            rw (kept (λ q. omega (arith, mark-beyond marks (dest places g) (p .long) (omega arith))))
+            (p .marks-are v l ∙ sym (other v (λ q. omega arith)))
+
+        after-again : isUser racks (dest places g) ≡ true → some g (names places (dest places g)) ≡ true → (v : ℕ) → v < 4096 → getD after v 0 ≡ markOf racks places (g + 1) v
+        after-again u b v l = rw (kept (λ q. omega (arith, mark-user u true b)))
+            (elim (ℕ-discrete (dest places g) v) [
+              | yes q ↦ rw (← q) (mark-user u true b ∙ sym (same u))
+              | no q ↦ p .marks-are v l ∙ sym (other v q)
+            ])
+
+        after-new : isUser racks (dest places g) ≡ true → some g (names places (dest places g)) ≡ false → (v : ℕ) → v < 4096 → getD after v 0 ≡ markOf racks places (g + 1) v
+        after-new u b v l = rw (renamed (mark-user u false b))
+            (elim (ℕ-discrete (dest places g) v) [
+              | yes q ↦ rw (← q) (getD-set-same marks (dest places g) 2 0 (omega (arith, p .long, user-lt racks (dest places g) u)) ∙ sym (same u))
+              | no q ↦ getD-set-other marks (dest places g) v 2 0 (λ r. q (sym r)) ∙ p .marks-are v l ∙ sym (other v q)
+            ])
+
+        marks-more : (v : ℕ) → v < 4096 → getD after v 0 ≡ markOf racks places (g + 1) v
+        marks-more = entry-cases racks places g (clean-5 f) after-free
+            (λ h u. by-test (some g (names places (dest places g))) (after-again u) (after-new u))
+
+        worst-more : worse worst n ≡ pick (some (g + 1) (repeats places)) 6 0
+        worst-more = entry-cases racks places g (clean-5 f)
+            (λ h. worse-more worst n false (repeats-free places g h) (n-free h) (p .worst-is))
+            (λ h u. by-test (some g (names places (dest places g)))
+            (λ b. worse-more worst n true (repeats-user h ∙ b) (n-user h u true b) (p .worst-is))
+            (λ b. worse-more worst n false (repeats-user h ∙ b) (n-user h u false b) (p .worst-is)))
+
+        long-more : length after ≡ 4096
+        unfolding named
+        long-more = ap length (e .marks-are) ∙ by-test (eqb (getD marks (dest places g) 0) 1)
+            (λ t. rw t (length-set marks (dest places g) 2 ∙ p .long)) (λ t. rw t (p .long))
+
+        pub passed-more : Passed racks places after (worse worst n) (g + 1)
+        passed-more =
+            record {
+              clean = below-more (λ k. badEntry racks places k ≡ false) g (p .clean) (clean-5 f);
+              marks-are = marks-more;
+              worst-is = worst-more;
+              long = long-more;
+            }
+
+-- the whole table
+pub entries-5 : (racks : List Rack) (places : List ℕ) (g : ℕ) → g < length places → badEntry racks places g ≡ true → 5 ≡ entriesNumber racks places
+unfolding entriesNumber badEntries
+entries-5 racks places g l h = sym (first-here _ 5 _ (some-hit (length places) (badEntry racks places) g l h))
+
+pub entries-passed : (racks : List Rack) (places marks : List ℕ) (worst g : ℕ) → g ≡ length places → Passed racks places marks worst g → worst ≡ entriesNumber racks places
+unfolding entriesNumber badEntries badTwice first
+entries-passed racks places marks worst g e p =
+    p .worst-is
+    ∙ ap (λ (k : ℕ). pick (some k (repeats places)) 6 0) e
+    ∙ sym (first-later (some (length places) (badEntry racks places)) 5 ((some (length places) (repeats places), 6) ∷ []) (some-none (length places) (badEntry racks places) (λ k l. p .clean k (omega arith))))

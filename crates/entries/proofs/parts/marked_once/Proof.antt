@@ -1,0 +1,82 @@
+use borrow.Author.Needs.{needs}
+use native.Mathlib.Omega.{arith}
+use Prim.Native.Nat.{ℕ, _-_, _≤_}
+use mathlib.Core.Path.{ap, _∙_}
+use Rattle.racks.specs.Job.{racksOf}
+use Rattle.racks.proofs.Jobs.{slots-few, sound-slots}
+use Rattle.racks.specs.Table.{dest}
+use Rattle.entries.specs.parts.Once.{placeOf}
+use Rattle.entries.proofs.Once.{Once, once-none, once-more, once-all, place-in}
+use Rattle.entries.proofs.parts.marked_once.Statement.{statement}
+use Rattle.entries.proofs.parts.marked_once.Tie as tie
+
+abbrev Inv-loop : tie.InvT-loop
+Inv-loop job places marks₀ all₀ g₀ marks all g = (g ≤ job .slots) × Once (racksOf job) places marks all g
+
+abbrev μ-loop : tie.MeasureT-loop
+μ-loop job places marks₀ all₀ g₀ marks all g = job .slots - g
+
+loop-holds : tie.Need-loop-holds Inv-loop μ-loop
+loop-holds c = let s = c .before in (omega arith, once-none _ _ _ (s .pre .2))
+
+mul-place-of : tie.Need-mul-place-of Inv-loop μ-loop
+mul-place-of c = search needs
+
+shared-slice-read-place-of : tie.Need-shared-slice-read-place-of Inv-loop μ-loop
+shared-slice-read-place-of c = search needs
+
+place-of-requires : tie.Need-place-of-requires Inv-loop μ-loop
+place-of-requires c κs =
+    let s = c .before .before .before .before .before in
+    let f = slots-few _ (s .pre .0) in
+    (f, omega arith)
+
+take-mark-requires : tie.Need-take-mark-requires Inv-loop μ-loop
+take-mark-requires c κs =
+    let l = c .before .before .before .before .before in
+    let s = l .before .before in
+    let f = slots-few _ (s .pre .0) in
+    (rw (c .before .place-of .ensures) (place-in _ _ _ f (omega arith)), l .loop .inv .1 .long)
+
+both-requires : tie.Need-both-requires Inv-loop μ-loop
+both-requires c κs = search needs
+
+add-g : tie.Need-add-g Inv-loop μ-loop
+add-g c = search needs
+
+loop-less : tie.Need-loop-less Inv-loop μ-loop
+loop-less c = search needs
+
+loop-again : tie.Need-loop-again Inv-loop μ-loop
+loop-again c =
+    let l = c .before .before .before .before .before .before .before in
+    let s = l .before .before in
+    let at = c .before .before .before .place-of in (
+      omega arith,
+      rw (c .both .ensures)
+          (once-more (racksOf (s .args .job)) (s .pre .0 .small) (s .args .places .now) (l .loop .marks) (l .loop .all) (l .loop .g) (l .loop .inv .1) _
+          (at .ensures ∙ ap (λ (n : ℕ). placeOf n (l .loop .g) (dest (s .args .places .now) (l .loop .g))) (sound-slots _ (s .pre .0))) _ _ (c .before .take-mark .ensures)),
+    )
+
+returns : tie.Need-returns Inv-loop μ-loop
+returns c =
+    let l = c .before .before in
+    let s = l .before .before in
+    once-all (racksOf (s .args .job)) (s .args .places .now) (l .loop .marks) (l .loop .all) (l .loop .g) (omega arith) (l .loop .inv .1)
+
+pub marked-once-spec : {M : Type 1} → statement M
+marked-once-spec =
+    tie.close
+    (tie.spec
+    Inv-loop
+    μ-loop
+    loop-holds
+    mul-place-of
+    shared-slice-read-place-of
+    place-of-requires
+    take-mark-requires
+    both-requires
+    add-g
+    loop-less
+    loop-again
+    returns)

@@ -1,0 +1,55 @@
+-- The pass over the entries, as the code makes it: a table of marks, 0 for what is no user slot, 1 for a user slot, 2 for one that an
+-- entry has named. Assumes nothing: these are definitions.
+use mathlib.Core.Path.{_≡_}
+use mathlib.Core.List.{List}
+use Prim.Native.Nat.{ℕ, _≤_, _<_}
+use lib.Dec.{eqb}
+use lib.ListN.{length, getD, set}
+use Rattle.counting.specs.Tests.{bit, pick}
+use Rattle.counting.specs.Count.{some}
+use Rattle.counting.specs.Checks.{first}
+use Rattle.racks.specs.Limits.{SLOTS, FREE}
+use Rattle.racks.specs.Racks.{Rack, isUser}
+use Rattle.racks.specs.Table.{names}
+use Rattle.racks.specs.Numbers.{entryChecks}
+
+-- the list has the value from low up to high, elsewhere what it had, and its length
+pub record Between (low high value : ℕ) (before after : List ℕ) : Type 0 where
+  pub inside : (g : ℕ) → low ≤ g → g < high → getD after g 0 ≡ value
+  pub below : (g : ℕ) → g < low → getD after g 0 ≡ getD before g 0
+  pub above : (g : ℕ) → high ≤ g → low ≤ g → getD after g 0 ≡ getD before g 0
+  pub long : length after ≡ length before
+
+-- the list has 1 at each user slot and 0 elsewhere
+pub record UsersMarked (racks : List Rack) (list : List ℕ) : Type 0 where
+  pub marks : (g : ℕ) → g < SLOTS → getD list g 0 ≡ bit (isUser racks g)
+  pub long : length list ≡ SLOTS
+
+-- the mark of slot v after the first g entries
+unfoldable pub markOf : List Rack → List ℕ → ℕ → ℕ → ℕ
+markOf racks places g v = pick (isUser racks v) (pick (some g (names places v)) 2 1) 0
+
+-- the number of an entry by its slot's mark: 5 for no user slot, 6 for one that is named already
+unfoldable pub numberOf : ℕ → ℕ
+numberOf mark = pick (eqb mark 0) 5 (pick (eqb mark 1) 0 6)
+
+-- the number of entry x
+unfoldable pub entryNumber : List ℕ → ℕ → ℕ
+entryNumber marks x = pick (eqb x FREE) 0 (numberOf (getD marks x 0))
+
+-- the marks after entry x
+unfoldable pub named : List ℕ → ℕ → List ℕ
+named marks x = pick (eqb (getD marks x 0) 1) (set marks x 2) marks
+
+-- what one entry gives, and what it does to the marks
+pub record Entered (marks : List ℕ) (x number : ℕ) (after : List ℕ) : Type 0 where
+  pub number-is : number ≡ entryNumber marks x
+  pub marks-are : after ≡ named marks x
+
+-- 5 and 6 of a whole table
+unfoldable pub entriesNumber : List Rack → List ℕ → ℕ
+entriesNumber racks places = first (entryChecks racks places)
+
+-- 6 where it is given, else what was
+unfoldable pub worse : ℕ → ℕ → ℕ
+worse was now = pick (eqb now 6) 6 was

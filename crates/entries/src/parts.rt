@@ -1,0 +1,180 @@
+// The entries of a table: their number by marks, in a quick pass that only says whether it is 0, and in one that finds it.
+ghost use mathlib.Core.Path.{_≡_};
+ghost use mathlib.Core.Bool.{true};
+ghost use Prim.Native.Nat.{_≤_, _<_};
+ghost use lib.ListN.{length, replicate};
+ghost use Rattle.counting.specs.Tests.{_and_};
+ghost use Rattle.racks.specs.Limits.{SLOTS, MARKS};
+ghost use Rattle.racks.specs.Job.{racksOf, Sound};
+ghost use Rattle.entries.specs.parts.Marks.{Between, UsersMarked, Entered, entriesNumber, worse};
+ghost use Rattle.entries.specs.parts.Once.{placeOf, MarkTaken, OnceMarked};
+use racks::Job;
+
+// One value from `low` up to `high` in a list of bytes.
+pub fn fill(list: &mut [u8], low: usize, high: usize, value: u8)
+    requires { ⌜ high ≤ length (now list) ⌝ }
+    ensures { λ _. ⌜ Between low high value (now (list .entry)) (now (list .exit)) ⌝ }
+{
+    let mut g = low;
+    while g < high {
+        list[g] = value;
+        g = g + 1;
+    }
+}
+
+// 1 for each user slot, where all marks are 0.
+pub fn mark_users(job: Job, marks: &mut [u8; Job::MAX_SLOTS])
+    requires { ⌜ Sound job × (now marks ≡ replicate SLOTS 0) ⌝ }
+    ensures { λ _. ⌜ UsersMarked (racksOf job) (now (marks .exit)) ⌝ }
+{
+    let n = job.racks;
+    let mut low: usize = 0;
+    let mut p: usize = 0;
+    while p < n {
+        let spare = job.spares[p] as usize;
+        fill(marks, low, spare, 1);
+        low = job.ends[p] as usize;
+        p = p + 1;
+    }
+}
+
+// The number of one entry: 5 where it names no user slot, 6 where that slot is named already; it is named from now on.
+pub fn entry_number(marks: &mut [u8; Job::MAX_SLOTS], x: u16) -> u8
+    requires { ⌜ length (now marks) ≡ SLOTS ⌝ }
+    ensures { λ r. ⌜ Entered (now (marks .entry)) x r (now (marks .exit)) ⌝ }
+{
+    if x == Job::FREE {
+        return 0;
+    }
+    let at = x as usize;
+    if Job::MAX_SLOTS <= at {
+        return 5;
+    }
+    let mark = marks[at];
+    if mark == 0 {
+        return 5;
+    }
+    if mark != 1 {
+        return 6;
+    }
+    marks[at] = 2;
+    0
+}
+
+// 6 where it is given, else what was.
+pub fn worse_of(was: u8, now: u8) -> u8
+    ensures { λ r. ⌜ r ≡ worse was now ⌝ }
+{
+    if now == 6 {
+        return 6;
+    }
+    was
+}
+
+// 5, 6 or 0 for the entries, S of them: one pass. The marks are lent with the user slots marked.
+fn entries_number(job: Job, places: &[u16], marks: &mut [u8; Job::MAX_SLOTS]) -> u8
+    requires { ⌜ Sound job × (length (now places) ≡ job .slots) × UsersMarked (racksOf job) (now marks) ⌝ }
+    ensures { λ r. ⌜ r ≡ entriesNumber (racksOf job) (now (places .entry)) ⌝ }
+{
+    let mut worst: u8 = 0;
+    let mut g: usize = 0;
+    while g < job.slots {
+        let number = entry_number(marks, places[g]);
+        if number == 5 {
+            return 5;
+        }
+        worst = worse_of(worst, number);
+        g = g + 1;
+    }
+    worst
+}
+
+// The number of the entries of a table, with the marks made.
+pub fn number_entries(job: Job, places: &[u16]) -> u8
+    requires { ⌜ Sound job × (length (now places) ≡ job .slots) ⌝ }
+    ensures { λ r. ⌜ r ≡ entriesNumber (racksOf job) (now (places .entry)) ⌝ }
+{
+    let mut marks = [0u8; Job::MAX_SLOTS];
+    mark_users(job, &mut marks);
+    entries_number(job, places, &mut marks)
+}
+
+// The mark of each spare is shut, and the one behind the last slot; the others are left.
+fn shut_spares(job: Job, marks: &mut [u8; Job::MARKS])
+    requires { ⌜ Sound job × (length (now marks) ≡ MARKS) ⌝ }
+    ensures { λ _. ⌜ OnceMarked (racksOf job) (now (marks .exit)) ⌝ }
+{
+    let n = job.racks;
+    let mut low: usize = 0;
+    let mut p: usize = 0;
+    while p < n {
+        let from = job.spares[p] as usize;
+        low = job.ends[p] as usize;
+        fill(marks, from, low, 0);
+        p = p + 1;
+    }
+    marks[low] = 0;
+}
+
+// Where the mark of an entry stands: a free slot has one of its own, so that no mark waits for the one before it. No branch: in a table
+// where free and taken slots alternate at random none could be foretold.
+fn place_of(slots: usize, g: usize, x: u16) -> usize
+    requires { ⌜ (slots ≤ SLOTS) × (g < SLOTS) ⌝ }
+    ensures { λ r. ⌜ r ≡ placeOf slots g x ⌝ }
+{
+    if x == Job::FREE {
+        return Job::MAX_SLOTS + 1 + g;
+    }
+    let at = x as usize;
+    if slots < at {
+        return slots;
+    }
+    at
+}
+
+// Shuts the mark at a place; whether it was open.
+fn take_mark(marks: &mut [u8; Job::MARKS], at: usize) -> bool
+    requires { ⌜ (at < MARKS) × (length (now marks) ≡ MARKS) ⌝ }
+    ensures { λ r. ⌜ MarkTaken (now (marks .entry)) at r (now (marks .exit)) ⌝ }
+{
+    let mark = marks[at];
+    marks[at] = 0;
+    mark == 1
+}
+
+// Both of two tests.
+fn both(a: bool, b: bool) -> bool
+    ensures { λ r. ⌜ r ≡ (a and b) ⌝ }
+{
+    if a {
+        return b;
+    }
+    false
+}
+
+// Whether each entry found its mark open: then no entry is refused. One pass without a branch on an entry, since free and taken slots may
+// alternate at random; which number a refused table gets is left to `number_entries`.
+fn marked_once(job: Job, places: &[u16], marks: &mut [u8; Job::MARKS]) -> bool
+    requires { ⌜ Sound job × (length (now places) ≡ job .slots) × OnceMarked (racksOf job) (now marks) ⌝ }
+    ensures { λ r. ⌜ (r ≡ true → 0 ≡ entriesNumber (racksOf job) (now (places .entry))) ⌝ }
+{
+    let mut all = true;
+    let mut g: usize = 0;
+    while g < job.slots {
+        let at = place_of(job.slots, g, places[g]);
+        let fits = take_mark(marks, at);
+        all = both(all, fits);
+        g = g + 1;
+    }
+    all
+}
+
+// Whether no entry of a table is refused, with the marks made: all are open but those of the spares.
+pub fn entries_clear(job: Job, places: &[u16]) -> bool
+    requires { ⌜ Sound job × (length (now places) ≡ job .slots) ⌝ }
+    ensures { λ r. ⌜ (r ≡ true → 0 ≡ entriesNumber (racksOf job) (now (places .entry))) ⌝ }
+{
+    let mut marks = [1u8; Job::MARKS];
+    shut_spares(job, &mut marks);
+    marked_once(job, places, &mut marks)
+}

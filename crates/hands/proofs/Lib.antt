@@ -1,0 +1,2 @@
+pub mod ByteLoops
+pub mod Copying

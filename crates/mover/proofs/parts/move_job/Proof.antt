@@ -1,0 +1,61 @@
+use mathlib.Core.Path.{refl, sym, _∙_}
+use Rattle.mover.specs.parts.Moving.{movedBy}
+use Rattle.moves.specs.Moves.{held}
+use Rattle.mover.proofs.Outcomes.{outcome-refused, outcome-done}
+use borrow.Author.Needs.{needs}
+use Rattle.mover.proofs.parts.move_job.Statement.{statement}
+use Rattle.mover.proofs.parts.move_job.Tie as tie
+
+move-number-requires : tie.Need-move-number-requires
+move-number-requires c κs = search needs
+
+of-requires : tie.Need-of-requires
+of-requires c κs = search needs
+
+same-length : tie.Need-same-length
+same-length c = search needs
+
+same-length-2 : tie.Need-same-length-2
+same-length-2 c = search needs
+
+returns : tie.Need-returns
+unfolding movedBy
+returns c =
+    let s = c .before .before .before .before .before .before .before .args in
+    outcome-refused _ _ _ (held (s .places .now) (s .cards .now)) _ _ (c .of .ensures) (c .before .before .move-number .ensures .number-is) (c .before .if1 .taken)
+
+move-card-requires : tie.Need-move-card-requires
+move-card-requires c κs =
+    let z = c .before .before .if1 .left in
+    let n = c .before .before .before .move-number .ensures in
+    (n .sized z, (n .slots z .from-lt, n .slots z .to-lt))
+
+one-made-requires : tie.Need-one-made-requires
+one-made-requires c κs = search needs
+
+same-length-3 : tie.Need-same-length-3
+same-length-3 c = search needs
+
+same-length-4 : tie.Need-same-length-4
+same-length-4 c = search needs
+
+returns-2 : tie.Need-returns-2
+unfolding movedBy
+returns-2 c =
+    let e = c .before .before .before .before .before .before .before .before in
+    outcome-done _ _ _ _ _ _ (held _ _) (c .one-made .ensures) refl (c .before .before .before .before .before .move-card .ensures) (sym (e .before .move-number .ensures .number-is) ∙ e .if1 .left)
+
+pub move-job-spec : {M : Type 1} → statement M
+move-job-spec =
+    tie.close
+    (tie.spec
+    move-number-requires
+    of-requires
+    same-length
+    same-length-2
+    returns
+    move-card-requires
+    one-made-requires
+    same-length-3
+    same-length-4
+    returns-2)

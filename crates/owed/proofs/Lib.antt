@@ -1,0 +1,3 @@
+pub mod Owed
+pub mod Owing
+pub mod Paying

@@ -1,0 +1,2 @@
+pub mod Awaits
+pub mod parts

@@ -1,0 +1,4 @@
+pub mod Visits
+pub mod Pairing
+pub mod Planning
+pub mod Ready

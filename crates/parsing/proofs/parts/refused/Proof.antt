@@ -1,0 +1,13 @@
+-- `jobfile::parts::refused` meets its contract. Assumes nothing.
+use borrow.Author.Needs.{needs}
+use Rattle.parsing.proofs.parts.refused.Statement.{statement}
+use Rattle.parsing.proofs.parts.refused.Tie as tie
+
+of-requires : tie.Need-of-requires
+of-requires c κs = search needs
+
+returns : tie.Need-returns
+returns c = rw (c .of .ensures)
+
+pub refused-spec : {M : Type 1} → statement M
+refused-spec = tie.close (tie.spec of-requires returns)

@@ -1,0 +1,113 @@
+-- "Job file": N, B, the m_p, the entries, the card bytes, and the order of the reader's checks. Assumes nothing: these are definitions.
+use mathlib.Core.Bool.{not}
+use mathlib.Core.List.{List, [], _∷_, _++_}
+use Prim.Native.Nat.{ℕ, _-_, _*_}
+use lib.Dec.{eqb, ltb}
+use lib.ListN.{length, getD, drop}
+use Rattle.counting.specs.Tests.{_and_, _or_, pick}
+use Rattle.counting.specs.Lists.{each}
+use Rattle.counting.specs.Checks.{Check, first, refusal, done}
+use Rattle.racks.specs.Limits.{FREE}
+use Rattle.racks.specs.Racks.{Rack, ofCaps, slots, isUser}
+use Rattle.racks.specs.Numbers.{badCount, badBytes, badSize, badTwice}
+use Rattle.answers.specs.Answers.{noCounts, answer, written}
+use Rattle.answers.specs.declared.Answer.{Answer}
+use Rattle.numerals.specs.Numeral.{Numerals, numerals}
+
+-- 1 for N
+unfoldable pub wrongN : List ℕ → ℕ → ℕ
+wrongN before n = first ((badCount n, 1) ∷ [])
+
+-- 2 for B
+unfoldable pub wrongB : List ℕ → ℕ → ℕ
+wrongB before b = first ((badBytes b, 2) ∷ [])
+
+-- 3 for m_p and the running total
+unfoldable pub wrongM : List ℕ → ℕ → ℕ
+wrongM before m = first ((badSize (ofCaps (before ++ m ∷ [])), 3) ∷ [])
+
+-- 5 for an entry: not 0, and one less than it is no user slot
+unfoldable pub wrongEntry : List Rack → List ℕ → ℕ → ℕ
+wrongEntry racks before x = first ((not (eqb x 0) and not (isUser racks (x - 1)), 5) ∷ [])
+
+-- an entry as the places table has it: 0 free, else destination + 1
+unfoldable pub entryOf : ℕ → ℕ
+entryOf x = pick (eqb x 0) FREE (x - 1)
+
+module _ (file : List ℕ) where
+  -- N
+  unfoldable pub readN : Numerals
+  readN = numerals wrongN 1 file 0 []
+
+  -- B
+  unfoldable pub readB : Numerals
+  readB = numerals wrongB 1 file (readN .place) []
+
+  -- the m_p
+  unfoldable pub readM : Numerals
+  readM = numerals wrongM (getD (readN .values) 0 0) file (readB .place) []
+
+  -- the racks that they give
+  unfoldable pub fileRacks : List Rack
+  fileRacks = ofCaps (readM .values)
+
+  -- S entries
+  unfoldable pub readEntries : Numerals
+  readEntries = numerals (wrongEntry fileRacks) (slots fileRacks) file (readM .place) []
+
+  -- B, once read
+  unfoldable pub fileBytes : ℕ
+  fileBytes = getD (readB .values) 0 0
+
+  -- the places table
+  unfoldable pub filePlaces : List ℕ
+  filePlaces = each entryOf (readEntries .values)
+
+  -- the bytes behind the last entry: the cards, where there are S·B
+  unfoldable pub fileCards : List ℕ
+  fileCards = drop (readEntries .place) file
+
+  -- each numeral as read; after the last entry 6, then 15 or 16 for the card bytes
+  unfoldable pub fileChecks : List Check
+  fileChecks =
+      refusal (readN .number)
+      ∷ refusal (readB .number)
+      ∷ refusal (readM .number)
+      ∷ refusal (readEntries .number)
+      ∷ (badTwice filePlaces, 6)
+      ∷ (ltb (length fileCards) (slots fileRacks * fileBytes), 15)
+      ∷ (ltb (slots fileRacks * fileBytes) (length fileCards), 16)
+      ∷ []
+
+-- the outcome of reading: N, B and S, the two lent lists at exit, where the card bytes begin, and the part of the file that they are
+pub record Read : Type 0 where
+  pub answer : Answer
+  pub racks : ℕ
+  pub bytes : ℕ
+  pub slots : ℕ
+  pub caps : List ℕ
+  pub places : List ℕ
+  pub place : ℕ
+  pub cards : List ℕ
+
+-- then 17: room for capacities below N, or for places below S
+unfoldable pub readChecks : List ℕ → List ℕ → List ℕ → List Check
+readChecks file caps places =
+    fileChecks file
+    ++ (ltb (length caps) (length (fileRacks file)) or ltb (length places) (slots (fileRacks file)), 17)
+    ∷ []
+
+-- **Job file.** On a refusal every other number is 0, the lists are as lent and the part is empty
+unfoldable pub read : List ℕ → List ℕ → List ℕ → Read
+read file caps places =
+    let n = first (readChecks file caps places) in
+    record {
+      answer = answer n noCounts;
+      racks = pick (done n) (length (fileRacks file)) 0;
+      bytes = pick (done n) (fileBytes file) 0;
+      slots = pick (done n) (slots (fileRacks file)) 0;
+      caps = written n caps (readM file .values);
+      places = written n places (filePlaces file);
+      place = pick (done n) (readEntries file .place) 0;
+      cards = pick (done n) (fileCards file) [];
+    }
