@@ -1,5 +1,5 @@
 -- The contracts of this layer allow one outcome each. Assumes nothing.
-use mathlib.Core.Path.{_≡_, refl}
+use mathlib.Core.Path.{refl}
 use mathlib.Core.List.{List}
 use Prim.Native.Nat.{ℕ}
 use Rattle.counting.specs.One.{One}

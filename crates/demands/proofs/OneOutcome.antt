@@ -1,5 +1,5 @@
 -- One outcome for each public call: each contract's own layer proves it, and the numbers that C is given tell no less. Assumes nothing.
-use mathlib.Core.Path.{_≡_, refl}
+use mathlib.Core.Path.{refl}
 use mathlib.Core.List.{List}
 use Prim.Native.Nat.{ℕ}
 use Rattle.counting.specs.One.{One}

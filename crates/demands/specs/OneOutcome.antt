@@ -1,6 +1,5 @@
 -- One outcome: any two outcomes that a public call's contract allows are equal. An outcome is what the call gives and every lent list and byte at exit;
 -- each line cites the contract by the name under which the call cites it. Assumes nothing: these are statements; `one-outcome` in proofs/OneOutcome proves them.
-use mathlib.Core.Path.{_≡_}
 use mathlib.Core.List.{List}
 use Prim.Native.Nat.{ℕ}
 use denote.Ref.{RefT, now}

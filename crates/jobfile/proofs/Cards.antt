@@ -1,15 +1,13 @@
 -- Laws of the parts of a file that are handed back. Assumes nothing.
 use mathlib.Core.Path.{_≡_, sym, _∙_}
 use mathlib.Core.List.{List, []}
-use Prim.Native.Nat.{ℕ, _-_, _≤_, _<_}
+use Prim.Native.Nat.{ℕ, _-_, _<_}
 use native.Mathlib.Omega.{arith}
 use native.Mathlib.Nat.{sub-self, le-of-eq}
 use lib.ListN.{length, take, drop, length-drop, drop-of-length-le}
 use lib.Seq.{take-all}
-use borrow.Author.Tests.{eq-eqb, ne-eqb, lt-ltb, le-ltb}
-use Rattle.counting.proofs.Checks.{first-here, first-later, first-none}
+use borrow.Author.Tests.{eq-eqb, ne-eqb}
 use Rattle.jobfile.specs.Answers.{cardsOf}
-use Rattle.parsing.specs.parts.Parsing.{leftOf, endNumber}
 use Rattle.parsing.specs.declared.FileAnswer.{FileAnswer}
 
 -- the part of a file from a place on

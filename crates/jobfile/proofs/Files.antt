@@ -1,34 +1,23 @@
 -- Laws of the outcome of reading a file, by its number. Assumes nothing.
-use mathlib.Core.Path.{_≡_, refl, ap, sym, _∙_, subst}
-use mathlib.Core.Bool.{Bool, true, not}
-use mathlib.Core.List.{List, [], _∷_, _++_}
-use Prim.Native.Nat.{ℕ, _*_, _≤_, _<_}
+use mathlib.Core.Path.{_≡_, ap, sym, _∙_}
+use mathlib.Core.Bool.{true}
+use mathlib.Core.List.{List, [], _∷_}
+use Prim.Native.Nat.{ℕ, _≤_, _<_}
 use native.Mathlib.Omega.{arith}
-use native.Mathlib.Nat.{mul-le-mul}
-use native.Mathlib.Decide.{ℕ-discrete}
-use lib.Dec.{eqb, ltb}
+use lib.Dec.{ltb}
 use lib.ListN.{length, take}
 use lib.Seq.{sets}
-use borrow.Author.Tests.{eq-eqb, ne-eqb, lt-ltb, le-ltb}
-use Rattle.counting.specs.Tests.{_or_, pick}
-use Rattle.counting.specs.Lists.{each}
+use borrow.Author.Tests.{ne-eqb, lt-ltb, le-ltb}
+use Rattle.counting.specs.Tests.{_or_}
 use Rattle.counting.specs.Checks.{Check, first}
-use Rattle.counting.proofs.Tests.{by-test, not-on, no-way, or-l, or-r, or-none}
+use Rattle.counting.proofs.Tests.{or-l, or-r, or-none}
 use Rattle.counting.proofs.Checks.{first-here, first-later, first-none, first-append}
-use Rattle.racks.specs.Racks.{ofCaps, slots}
-use Rattle.racks.specs.Job.{racksOf, jobOf, goodJob, Sound}
-use Rattle.answers.specs.Answers.{answer, noCounts}
-use Rattle.racks.specs.declared.Job.{Job}
-use Rattle.answers.specs.declared.Answer.{Answer}
-use Rattle.racks.proofs.Caps.{slots-small}
-use Rattle.racks.proofs.Jobs.{job-good, caps-again, caps-sound}
-use Rattle.numerals.specs.Numeral.{Numerals}
-use Rattle.parsing.specs.File.{entryOf, readN, readB, readM, readEntries, fileRacks, fileBytes, filePlaces, fileCards, fileChecks, readChecks, read}
+use Rattle.racks.specs.Racks.{slots}
+use Rattle.answers.specs.Answers.{answer}
+use Rattle.parsing.specs.File.{readM, fileRacks, filePlaces, fileCards, fileChecks, readChecks, read}
 use Rattle.parsing.specs.Answers.{refusedFile, doneFile, fileAnswer}
-use Rattle.parsing.specs.parts.Parsing.{headChecks, Headed, entries, entriesChecks, EntriesRead, leftOf, endNumber, Parsed}
+use Rattle.parsing.specs.parts.Parsing.{Parsed}
 use Rattle.parsing.specs.declared.FileAnswer.{FileAnswer}
-use Rattle.parsing.specs.declared.parts.Taken.{Taken}
-use Rattle.parsing.specs.declared.parts.Head.{Head}
 use Rattle.parsing.proofs.Files.{sure-past, file-sure, answer-refused, answer-number}
 use Rattle.jobfile.specs.Answers.{cardsOf, readOf}
 

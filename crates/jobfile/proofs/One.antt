@@ -15,7 +15,6 @@ use Rattle.parsing.specs.declared.FileAnswer.{FileAnswer}
 use Rattle.jobfile.specs.Answers.{readOf, ReadFile, RestOf, CardBytes}
 use Rattle.jobfile.specs.Reading.{placeAfter, Stepped, New, Next, JobRead, jobSeen}
 use Rattle.jobfile.specs.declared.Reader.{Reader}
-use Rattle.jobfile.specs.declared.Step.{Step}
 use Rattle.jobfile.specs.declared.JobFile.{JobFile}
 
 -- a file read into two lent lists

@@ -2,15 +2,12 @@
 use mathlib.Core.List.{List, []}
 use mathlib.Core.Path.{_≡_}
 use Prim.Native.Nat.{ℕ}
-use lib.ListN.{length, drop}
+use lib.ListN.{drop}
 use Rattle.counting.specs.Tests.{pick}
 use Rattle.counting.specs.Checks.{done}
 use Rattle.racks.specs.Racks.{slots}
-use Rattle.answers.specs.Answers.{noCounts, answer}
-use Rattle.numerals.specs.Numeral.{Got, refused}
-use Rattle.parsing.specs.File.{Read, fileRacks, fileBytes, readEntries, read}
-use Rattle.numerals.specs.declared.Numeral.{Numeral}
-use Rattle.numerals.specs.declared.Numeral.the-variants.{Value, Refused}
+use Rattle.answers.specs.Answers.{answer}
+use Rattle.parsing.specs.File.{Read, read}
 use Rattle.parsing.specs.declared.FileAnswer.{FileAnswer}
 
 -- the card bytes: what lies behind their place; an empty part on a refusal

@@ -1,12 +1,11 @@
 -- Laws of the line after a visit of a rack. Assumes nothing.
-use mathlib.Core.Path.{_≡_, sym, _∙_}
+use mathlib.Core.Path.{_≡_, _∙_}
 use mathlib.Core.Logic.{_≢_}
 use mathlib.Core.List.{List}
-use Prim.Native.Nat.{ℕ, _+_, _-_, _≤_, _<_}
+use Prim.Native.Nat.{ℕ, _+_, _-_, _<_}
 use native.Mathlib.Omega.{arith}
-use lib.ListN.{length, getD, set, replicate, length-set, length-replicate}
-use lib.Seq.{length-take-le, take-set-le, take-set-lt, getD-take, getD-set-same, getD-set-other, ext-getD}
-use Rattle.counting.proofs.Lists.{zeros}
+use lib.ListN.{length, getD, set, length-set}
+use lib.Seq.{getD-set-same, getD-set-other}
 use Rattle.queues.specs.parts.Line.{queueOf, headOf, tailOf, roomOf}
 use Rattle.queues.proofs.Line.{queue-kept}
 use Rattle.pairing.specs.parts.Phase.{visited}

@@ -2,19 +2,18 @@
 use mathlib.Core.Path.{_≡_, refl, ap, sym, _∙_, subst}
 use mathlib.Core.Bool.{Bool, true, not}
 use mathlib.Core.List.{List, [], _∷_, _++_}
-use Prim.Native.Nat.{ℕ, _*_, _≤_, _<_}
+use Prim.Native.Nat.{ℕ, _*_, _≤_}
 use native.Mathlib.Omega.{arith}
 use native.Mathlib.Nat.{mul-le-mul}
 use native.Mathlib.Decide.{ℕ-discrete}
 use lib.Dec.{eqb, ltb}
 use lib.ListN.{length, take}
-use lib.Seq.{sets}
-use borrow.Author.Tests.{eq-eqb, ne-eqb, lt-ltb, le-ltb}
-use Rattle.counting.specs.Tests.{_or_, pick}
+use borrow.Author.Tests.{eq-eqb, ne-eqb}
+use Rattle.counting.specs.Tests.{pick}
 use Rattle.counting.specs.Lists.{each}
 use Rattle.counting.specs.Checks.{Check, first}
-use Rattle.counting.proofs.Tests.{by-test, not-on, no-way, or-l, or-r, or-none}
-use Rattle.counting.proofs.Checks.{first-here, first-later, first-none, first-append}
+use Rattle.counting.proofs.Tests.{by-test, not-on, no-way}
+use Rattle.counting.proofs.Checks.{first-here, first-later, first-append}
 use Rattle.racks.specs.Racks.{ofCaps, slots}
 use Rattle.racks.specs.Job.{racksOf, jobOf, goodJob, Sound}
 use Rattle.answers.specs.Answers.{answer, noCounts}
@@ -23,7 +22,7 @@ use Rattle.answers.specs.declared.Answer.{Answer}
 use Rattle.racks.proofs.Caps.{slots-small}
 use Rattle.racks.proofs.Jobs.{job-good, caps-again, caps-sound}
 use Rattle.numerals.specs.Numeral.{Numerals}
-use Rattle.parsing.specs.File.{entryOf, readN, readB, readM, readEntries, fileRacks, fileBytes, filePlaces, fileCards, fileChecks, readChecks, read}
+use Rattle.parsing.specs.File.{entryOf, readN, readB, readM, readEntries, fileRacks, fileBytes, filePlaces, fileCards, fileChecks}
 use Rattle.parsing.specs.Answers.{refusedFile, doneFile, fileAnswer}
 use Rattle.parsing.specs.parts.Parsing.{headChecks, Headed, entries, entriesChecks, EntriesRead, leftOf, endNumber, Parsed}
 use Rattle.parsing.specs.declared.FileAnswer.{FileAnswer}

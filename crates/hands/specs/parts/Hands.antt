@@ -1,20 +1,17 @@
 -- Cards brought to their slots, along chains and by the hand. Assumes nothing: these are definitions.
 use mathlib.Core.Path.{_≡_}
-use mathlib.Core.Logic.{_≢_}
 use mathlib.Core.List.{List, [], _∷_}
-use Prim.Native.Nat.{ℕ, _+_, _≤_, _<_}
-use lib.Dec.{eqb}
-use lib.ListN.{length, getD, take, set}
-use Rattle.counting.specs.Tests.{pick, bit}
-use Rattle.counting.specs.Lists.{Pair, tabulate, join}
-use Rattle.racks.specs.Limits.{FREE, BYTES, SOURCES}
-use Rattle.moves.specs.Blocks.{block, putBlock, blank}
+use Prim.Native.Nat.{ℕ}
+use lib.ListN.{length, take}
+use Rattle.counting.specs.Lists.{Pair}
+use Rattle.racks.specs.Limits.{BYTES}
+use Rattle.moves.specs.Blocks.{block, putBlock}
 use Rattle.answers.specs.Answers.{plusCopies}
 use Rattle.answers.specs.declared.Tally.{Tally}
-use Rattle.factors.specs.Copies.{source, copies, copyList}
+use Rattle.factors.specs.Copies.{copies, copyList}
 use Rattle.factors.specs.parts.Walks.{COUNTED, walked, walkCount}
 use Rattle.copies.specs.parts.Writes.{due, Added}
-use Rattle.shuffle.specs.Shuffle.{Hands, runCopies, brought, lastEntry, lastCard}
+use Rattle.shuffle.specs.Shuffle.{Hands, runCopies}
 
 -- the cards, and the card in the first b bytes of the library's hand
 unfoldable pub handed : ℕ → List ℕ → List ℕ → Hands

@@ -2,16 +2,16 @@
 use mathlib.Core.Path.{_≡_}
 use mathlib.Core.Bool.{false}
 use mathlib.Core.List.{List, [], _∷_}
-use Prim.Native.Nat.{ℕ, _-_, _*_, _≤_}
+use Prim.Native.Nat.{ℕ, _-_, _≤_}
 use lib.Dec.{ltb}
 use lib.ListN.{length, take, drop}
-use Rattle.counting.specs.Tests.{_or_, pick}
+use Rattle.counting.specs.Tests.{pick}
 use Rattle.counting.specs.Lists.{each}
 use Rattle.counting.specs.Checks.{Check, first, refusal, done}
 use Rattle.racks.specs.Limits.{USERS, TOTAL, BYTES, RACKS, SLOTS}
 use Rattle.racks.specs.Racks.{Rack, ofCaps, slots}
 use Rattle.racks.specs.Numbers.{badSize, badTwice, rackChecks}
-use Rattle.numerals.specs.Numeral.{Got, refused, numeral, Numerals, numerals}
+use Rattle.numerals.specs.Numeral.{Numerals, numerals}
 use Rattle.parsing.specs.File.{wrongM, wrongEntry, entryOf, readN, readB, readM, fileRacks, fileBytes, filePlaces, fileChecks}
 use Rattle.parsing.specs.Answers.{fileAnswer}
 use Rattle.parsing.specs.declared.FileAnswer.{FileAnswer}
