@@ -37,10 +37,10 @@
  *     slot_question                     15
  *     phase_plan                        24
  *     budgeted_moves                    40
- *     copy_list                         62
- *     shuffle_cards                     78
- *     whole_run                         86
- *     list_job                         382
+ *     copy_list                         29
+ *     shuffle_cards                     34
+ *     whole_run                         48
+ *     list_job                         344
  *
  * Large frames are touched page by page, so a stack that is too small ends in its guard page.
  * bindings/rust/examples/stack.rs measures anew, and fails where a call takes more.
@@ -74,10 +74,10 @@ extern "C" {
 #endif
 
 /* The version of this header, which is that of the Rust crate beside it. */
-#define SEINEFLUTE_VERSION "0.2.0"
+#define SEINEFLUTE_VERSION "0.2.1"
 #define SEINEFLUTE_VERSION_MAJOR 0
 #define SEINEFLUTE_VERSION_MINOR 2
-#define SEINEFLUTE_VERSION_PATCH 0
+#define SEINEFLUTE_VERSION_PATCH 1
 
 /* Limits. */
 enum {

@@ -107,10 +107,10 @@
 //! | `slot_question` | 15 |
 //! | `phase_plan` | 24 |
 //! | `budgeted_moves` | 40 |
-//! | `copy_list` | 62 |
-//! | `shuffle_cards` | 78 |
-//! | `whole_run` | 86 |
-//! | `list_job` | 382 |
+//! | `copy_list` | 29 |
+//! | `shuffle_cards` | 34 |
+//! | `whole_run` | 48 |
+//! | `list_job` | 344 |
 
 use std::error::Error;
 use std::fmt;

@@ -2,7 +2,7 @@
 use mathlib.Core.Path.{_≡_, refl, sym, ap, _∙_}
 use mathlib.Core.Logic.{_≢_}
 use mathlib.Core.List.{List, [], _∷_, _++_}
-use Prim.Native.Nat.{ℕ, zero, suc, _+_, _-_, _*_}
+use Prim.Native.Nat.{ℕ, zero, suc, _+_, _-_, _*_, _≤_}
 use native.Mathlib.Omega.{arith}
 use native.Mathlib.Numerals.{add-one}
 use lib.ListN.{length, getD, set}
@@ -10,11 +10,12 @@ use lib.Seq.{length-sets}
 use Rattle.counting.specs.Lists.{Pair, flat}
 use Rattle.racks.specs.Limits.{FREE, HAND}
 use Rattle.factors.specs.Copies.{next, shift}
-use Rattle.factors.specs.parts.Walks.{steps, Inside, walked}
+use Rattle.factors.specs.parts.Walks.{steps, stepped, Inside, walked}
 use Rattle.copies.specs.parts.Writes.{putCopies}
 use Rattle.counting.proofs.Stores.{length-flat, flat-append, sets-append}
 use Rattle.factors.proofs.Costs.{length-shift}
 use Rattle.factors.proofs.Walked.{length-steps, inside-step, walked-shift, walked-hand}
+use Rattle.factors.proofs.Stretches.{shift-cut}
 
 module _ (list : List ℕ) (at : ℕ) where
   -- copies keep the length of the list
@@ -58,6 +59,15 @@ shift-more places list l m at (suc n) x y e h i q k p r =
     let z : suc n - 1 ≡ n = omega arith in
     let d : e ≡ at + length (shift y (steps f n y)) = omega (arith, length-shift y (steps f n y), length-steps f n y) in
     r ∙ rw (p, z, ← i, d, ← inside-step places (suc n) x y h i) (sym (put-append list at (shift y (steps f n y)) ((x, y) ∷ [])))
+
+-- the copies of the far part of a chain, and then those of the stretch before it
+pub shift-both : (places list l m : List ℕ) (at behind n s x y : ℕ) → s ≤ n → y ≡ stepped (next places) s x → behind ≡ at + (n - s)
+    → l ≡ putCopies list at (shift y (steps (next places) (n - s) y)) → m ≡ putCopies l behind (shift x (steps (next places) s x)) → m ≡ putCopies list at (shift x (steps (next places) n x))
+shift-both places list l m at behind n s x y h e k p r =
+    let f : ℕ → ℕ = next places in
+    let far : List Pair = shift y (steps f (n - s) y) in
+    let d : behind ≡ at + length far = omega (arith, length-shift y (steps f (n - s) y), length-steps f (n - s) y) in
+    r ∙ rw (p, d, shift-cut f n s x y h e) (sym (put-append list at far (shift x (steps f s x))))
 
 -- the copies of a factor, as they are walked
 module _ (places : List ℕ) (h n end : ℕ) where

@@ -12,4 +12,5 @@ pub mod Walking
 pub mod Marks
 pub mod Behind
 pub mod Walked
+pub mod Stretches
 pub mod One

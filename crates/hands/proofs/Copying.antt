@@ -13,10 +13,11 @@ use Rattle.moves.specs.Blocks.{block, putBlock, blank}
 use Rattle.moves.proofs.Blocks.{length-put, within}
 use Rattle.factors.specs.Copies.{next, shift, copies, copyList}
 use Rattle.factors.specs.parts.Chains.{Chained}
-use Rattle.factors.specs.parts.Walks.{COUNTED, steps, Inside, Unmarked, Walked}
+use Rattle.factors.specs.parts.Walks.{COUNTED, steps, stepped, Inside, Unmarked, Walked}
 use Rattle.copies.specs.parts.Writes.{due}
 use Rattle.copies.proofs.Tallied.{plus-shift, plus-hand}
 use Rattle.factors.proofs.Walked.{inside-here, inside-step, walked-shift, walked-hand}
+use Rattle.factors.proofs.Stretches.{shift-cut}
 use Rattle.copies.proofs.Progress.{progress-end, Adding, adding-start, adding-end, adding-room, adding-more, few-copies, marked-none, added-none, added-due, due-copies}
 use Rattle.shuffle.specs.Shuffle.{Hands, taken, laid, runCopies, brought, copyMade}
 use Rattle.hands.specs.parts.Hands.{handed, slid, HandedAs, WalkBrought, SlotBrought, AllBrought}
@@ -52,24 +53,28 @@ run-append b [] ds h = refl
 run-append b (x ∷ cs) ds h = run-append b cs ds (laid b (x .1) (taken b (x .0) h) h)
 
 -- from slot to slot
-slid-snoc : (b : ℕ) (cs : List Pair) (c : Pair) (cards : List ℕ) → slid b (cs ++ c ∷ []) cards ≡ putBlock b (c .1) (block b (c .0) (slid b cs cards)) (slid b cs cards)
+slid-append : (b : ℕ) (cs ds : List Pair) (cards : List ℕ) → slid b (cs ++ ds) cards ≡ slid b ds (slid b cs cards)
 unfolding slid
-slid-snoc b [] c cards = refl
-slid-snoc b (x ∷ cs) c cards = slid-snoc b cs c (putBlock b (x .1) (block b (x .0) cards) cards)
+slid-append b [] ds cards = refl
+slid-append b (x ∷ cs) ds cards = slid-append b cs ds (putBlock b (x .1) (block b (x .0) cards) cards)
 
 -- the buffer stays as long as it is
-pub length-slid : (b : ℕ) (cs : List Pair) (cards : List ℕ) → length (slid b cs cards) ≡ length cards
+length-slid : (b : ℕ) (cs : List Pair) (cards : List ℕ) → length (slid b cs cards) ≡ length cards
 unfolding slid
 length-slid b [] cards = refl
 length-slid b (c ∷ cs) cards = length-slid b cs (putBlock b (c .1) (block b (c .0) cards) cards) ∙ length-put b (c .1) (block b (c .0) cards) cards
 
+-- as long as it was
+pub slid-size : (b : ℕ) (cs : List Pair) (cards after : List ℕ) → after ≡ slid b cs cards → length after ≡ length cards
+slid-size b cs cards after e = ap length e ∙ length-slid b cs cards
+
 -- so a slot is within it
 pub slid-within : (b n g : ℕ) (cs : List Pair) (cards after : List ℕ) → after ≡ slid b cs cards → length cards ≡ n * b → g < n → g * b + b ≤ length after
-slid-within b n g cs cards after e l h = within b n g after (ap length e ∙ length-slid b cs cards ∙ l) h
+slid-within b n g cs cards after e l h = within b n g after (slid-size b cs cards after e ∙ l) h
 
 -- and one copy more keeps its length
 pub slid-long : (b y : ℕ) (cs : List Pair) (bytes cards l m : List ℕ) → l ≡ slid b cs cards → m ≡ putBlock b y bytes l → length m ≡ length cards
-slid-long b y cs bytes cards l m e p = ap length p ∙ length-put b y bytes l ∙ ap length e ∙ length-slid b cs cards
+slid-long b y cs bytes cards l m e p = ap length p ∙ length-put b y bytes l ∙ slid-size b cs cards l e
 
 -- the cards of a chain: none
 pub slid-none : (b n x : ℕ) (f : ℕ → ℕ) (cards : List ℕ) → n ≡ 0 → cards ≡ slid b (shift x (steps f n x)) cards
@@ -79,11 +84,18 @@ slid-none b n x f cards e = rw e
 -- those of the slots after x, and then x's
 pub slid-more : (b n x y : ℕ) (places cards l m : List ℕ) → Inside places n x → y ≡ getD places x 0 → n ≢ 0 → l ≡ slid b (shift y (steps (next places) (n - 1) y)) cards → m ≡ putBlock b y (block b x l) l
     → m ≡ slid b (shift x (steps (next places) n x)) cards
-unfolding shift steps
+unfolding shift steps slid
 slid-more b zero x y places cards l m h e q p r = absurd (q refl)
 slid-more b (suc n) x y places cards l m h e q p r =
     let z : suc n - 1 ≡ n = omega arith in
-    r ∙ rw (p, z, ← inside-step places (suc n) x y h e) (sym (slid-snoc b (shift y (steps (next places) n y)) (x, y) cards))
+    r ∙ rw (p, z, ← inside-step places (suc n) x y h e) (sym (slid-append b (shift y (steps (next places) n y)) ((x, y) ∷ []) cards))
+
+-- those of the far part of a chain, and then those of the stretch before it
+pub slid-cut : (b n s x y : ℕ) (places cards l m : List ℕ) → s ≤ n → y ≡ stepped (next places) s x → l ≡ slid b (shift y (steps (next places) (n - s) y)) cards → m ≡ slid b (shift x (steps (next places) s x)) l
+    → m ≡ slid b (shift x (steps (next places) n x)) cards
+slid-cut b n s x y places cards l m h e p r =
+    let f : ℕ → ℕ = next places in
+    r ∙ rw (p, shift-cut f n s x y h e) (sym (slid-append b (shift y (steps f (n - s) y)) (shift x (steps f s x)) cards))
 
 -- a chain of slots is run without the hand
 pub run-chain : (b : ℕ) (places cards hand : List ℕ) (n x : ℕ) → Inside places n x → length places ≤ 4096
@@ -95,7 +107,7 @@ run-chain b places cards hand (suc n) x w l =
     let cs : List Pair = shift y (steps (next places) n y) in
     let low : y < length places = inside-here places n y (w .1) in
     let i = run-chain b places cards hand n y (w .1) l in
-    rw (run-snoc b cs (x, y), i, slid-snoc b cs (x, y) cards)
+    rw (run-snoc b cs (x, y), i, slid-append b cs ((x, y) ∷ []) cards)
     (sym (made-slots b x y (slid b cs cards) hand (λ e. omega (arith, w .0)) (λ e. omega arith) x y refl refl (putBlock b y (block b x (slid b cs cards)) (slid b cs cards)) refl))
 
 -- a factor's cards
@@ -105,7 +117,7 @@ module _ (b : ℕ) (places : List ℕ) (h n end : ℕ) (inside : Inside places n
   brought-shift e tally r cards′ i p = record {
     count-is = plus-shift tally n end e r i;
     brings = record { is = ap (λ (l : List ℕ). handed b l hand) p ∙ sym (run-chain b places cards hand n h inside few) ∙ ap (λ (cs : List Pair). runCopies b cs (handed b cards hand)) (sym (walked-shift places h n end e)); long = long };
-    size = ap length p ∙ length-slid b (shift h (steps (next places) n h)) cards;
+    size = slid-size b (shift h (steps (next places) n h)) cards cards′ p;
   }
 
   -- by the hand
@@ -127,7 +139,7 @@ module _ (b : ℕ) (places : List ℕ) (h n end : ℕ) (inside : Inside places n
               ∙ ap (λ (ds : List Pair). runCopies b ds (handed b cards hand)) (sym (walked-hand places h n end q));
           long = m;
         };
-        size = ap length s ∙ length-put b h (take b hand₁) cards₂ ∙ ap length o ∙ length-slid b cs cards;
+        size = ap length s ∙ length-put b h (take b hand₁) cards₂ ∙ slid-size b cs cards cards₂ o;
       }
 
 -- slot k is marked: nothing is due

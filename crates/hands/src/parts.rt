@@ -56,6 +56,27 @@ pub fn bring(
     made.add_copy()
 }
 
+// The cards of a chain of any length: where it is longer than a stretch the far part first, then the stretch from x on.
+pub fn bring_chain(
+    places: &&[u16],
+    cards: &mut [u8],
+    b: usize,
+    x: usize,
+    left: usize,
+    tally: Tally,
+) -> Tally
+    requires { ⌜ Inside (now (now places)) left x × (length (now (now places)) ≤ SLOTS) × (b ≤ BYTES) × (length (now cards) ≡ length (now (now places)) * b) × (tally .copies + left ≤ COPIES) ⌝ }
+    ensures counts { λ r. ⌜ r ≡ plusCopies left tally ⌝ }
+    ensures cards { λ _. ⌜ now (cards .exit) ≡ slid b (shift x (steps (next (now (now (places .entry)))) left x)) (now (cards .entry)) ⌝ }
+{
+    if left <= walks::STRETCH {
+        return bring(places, cards, b, x, left, tally);
+    }
+    let far = walks::slot_after(places, x, walks::STRETCH);
+    let made = bring_chain(places, cards, b, far, left - walks::STRETCH, tally);
+    bring(places, cards, b, x, walks::STRETCH, made)
+}
+
 // The cards of a factor: along a shift, or by the hand; the tally with the copies made.
 pub fn bring_walk(
     places: &[u16],
@@ -71,11 +92,11 @@ pub fn bring_walk(
     ensures { λ r. ⌜ WalkBrought b (now (places .entry)) head left end (now (cards .entry)) (now (hand .entry)) tally r (now (cards .exit)) (now (hand .exit)) ⌝ }
 {
     if end == Job::FREE {
-        return bring(&places, cards, b, head, left, tally);
+        return bring_chain(&places, cards, b, head, left, tally);
     }
     take_card(cards, hand, b, factors::parts::wide(end));
     let held = tally.add_copy();
-    let shifted = bring(&places, cards, b, head, left, held);
+    let shifted = bring_chain(&places, cards, b, head, left, held);
     lay_card(cards, hand, b, head);
     shifted.add_copy()
 }

@@ -106,6 +106,20 @@ pub fn write_shift(places: &&[u16], list: &mut [u16], x: usize, left: usize, tal
     made.add_copy()
 }
 
+// The copies of a chain of any length: where it is longer than a stretch those of the far part first, then those of the stretch from x on.
+pub fn write_chain(places: &&[u16], list: &mut [u16], x: usize, left: usize, tally: Tally) -> Tally
+    requires { ⌜ Inside (now (now places)) left x × (length (now (now places)) ≤ SLOTS) × (tally .copies + left ≤ COPIES) × (2 * (tally .copies + left) ≤ length (now list)) ⌝ }
+    ensures counts { λ r. ⌜ r ≡ plusCopies left tally ⌝ }
+    ensures copies { λ _. ⌜ now (list .exit) ≡ putCopies (now (list .entry)) (tally .copies) (shift x (steps (next (now (now (places .entry)))) left x)) ⌝ }
+{
+    if left <= walks::STRETCH {
+        return write_shift(places, list, x, left, tally);
+    }
+    let far = walks::slot_after(places, x, walks::STRETCH);
+    let made = write_chain(places, list, far, left - walks::STRETCH, tally);
+    write_shift(places, list, x, walks::STRETCH, made)
+}
+
 // The copies of a factor: of a shift, or by the hand.
 pub fn write_walk(
     places: &[u16],
@@ -120,12 +134,12 @@ pub fn write_walk(
     ensures copies { λ _. ⌜ now (list .exit) ≡ putCopies (now (list .entry)) (tally .copies) (walked (now (places .entry)) head left end) ⌝ }
 {
     if end == Job::FREE {
-        return write_shift(&places, list, head, left, tally);
+        return write_chain(&places, list, head, left, tally);
     }
     let first = tally.copies;
     put_copy(list, first, end, Job::HAND);
     let held = tally.add_copy();
-    let shifted = write_shift(&places, list, head, left, held);
+    let shifted = write_chain(&places, list, head, left, held);
     let last = shifted.copies;
     put_copy(list, last, Job::HAND, head as u16);
     shifted.add_copy()

@@ -19,6 +19,10 @@ COUNTED = 64
 abbrev pub LISTED : ℕ
 LISTED = 65
 
+-- how many slots the recursion along a chain goes through at a time
+abbrev pub STRETCH : ℕ
+STRETCH = 128
+
 -- a list for the sources of n slots, as it is made or cleared: no card comes to any of them
 pub record NoSources (n : ℕ) (noted : List ℕ) : Type 0 where
   pub none : (d : ℕ) → d < n → getD noted d 0 ≡ FREE
@@ -37,6 +41,11 @@ putSource noted x g = set noted (namedSlot SLOTS x) g
 unfoldable pub steps : (ℕ → ℕ) → ℕ → ℕ → List ℕ
 steps f zero x = []
 steps f (suc n) x = f x ∷ steps f n (f x)
+
+-- the slot that is n steps after x by f
+unfoldable pub stepped : (ℕ → ℕ) → ℕ → ℕ → ℕ
+stepped f zero x = x
+stepped f (suc n) x = stepped f n (f x)
 
 -- x and the n slots that follow it are slots of the table
 unfoldable pub Inside : List ℕ → ℕ → ℕ → Type 0

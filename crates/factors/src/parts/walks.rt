@@ -4,8 +4,9 @@ ghost use Prim.Native.Nat.{_≤_, _<_};
 ghost use lib.ListN.{length};
 ghost use Rattle.racks.specs.Limits.{SLOTS, SOURCES};
 ghost use Rattle.tables.specs.parts.Tables.{namedSlot};
+ghost use Rattle.factors.specs.Copies.{next};
 ghost use Rattle.factors.specs.parts.Chains.{Chained};
-ghost use Rattle.factors.specs.parts.Walks.{COUNTED, LISTED, NoSources, Sources, putSource, handEnd, Passed, MarkedOn, MarkedBack, Walked};
+ghost use Rattle.factors.specs.parts.Walks.{COUNTED, LISTED, STRETCH, NoSources, Sources, putSource, stepped, Inside, handEnd, Passed, MarkedOn, MarkedBack, Walked};
 use crate::parts;
 use racks::Job;
 
@@ -15,10 +16,14 @@ pub const COUNTED: u8 = 64;
 // The mark of a slot whose copies are listed: no rack has this number, so that the racking serves as marks, uncleared.
 pub const LISTED: u8 = 65;
 
-// The marks of the code are those of the definitions.
+// How many slots the recursion along a chain goes through at a time: a longer one is cut into stretches, so that the stack does not grow with it.
+pub const STRETCH: usize = 128;
+
+// The marks of the code are those of the definitions, and so is the stretch.
 pub fn marks_agree()
     ensures { λ _. do ⌜ COUNTED ≡ (← ⟦COUNTED⟧ .entry) ⌝ }
     ensures { λ _. do ⌜ LISTED ≡ (← ⟦LISTED⟧ .entry) ⌝ }
+    ensures { λ _. do ⌜ STRETCH ≡ (← ⟦STRETCH⟧ .entry) ⌝ }
 {}
 
 // A factor: its first slot, how many slots follow, and on a cycle of two slots or more the slot whose card goes to the hand, else 65,535. One
@@ -166,4 +171,18 @@ pub fn walk_factor(
         left: back.left + on.left,
         end: Job::FREE,
     }
+}
+
+// The slot that is n steps after x.
+pub fn slot_after(places: &&[u16], x: usize, n: usize) -> usize
+    requires { ⌜ Inside (now (now places)) n x × (length (now (now places)) ≤ SLOTS) ⌝ }
+    ensures { λ r. ⌜ r ≡ stepped (next (now (now (places .entry)))) n x ⌝ }
+{
+    let mut y = x;
+    let mut k: usize = 0;
+    while k < n {
+        y = parts::wide(places[y]);
+        k = k + 1;
+    }
+    y
 }

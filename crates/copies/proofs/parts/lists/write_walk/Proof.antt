@@ -9,8 +9,8 @@ use borrow.Author.Needs.{needs}
 use Rattle.copies.proofs.parts.lists.write_walk.Statement.{statement}
 use Rattle.copies.proofs.parts.lists.write_walk.Tie as tie
 
-write-shift-requires : tie.Need-write-shift-requires
-write-shift-requires c κs =
+write-chain-requires : tie.Need-write-chain-requires
+write-chain-requires c κs =
     let s = c .before .before .before .before .before in
     let e = count-shift (s .args .left) (s .args .end) (c .before .before .if1 .taken) in
     (s .pre .0, s .pre .1, omega (arith, e), omega (arith, e))
@@ -22,7 +22,7 @@ returns : tie.Need-returns
 returns c =
     let s = c .before .before .before .before .before .before .before .before in
     let q = c .before .before .before .before .before .if1 .taken in
-    let w = c .before .before .write-shift .ensures in
+    let w = c .before .before .write-chain .ensures in
     (plus-shift _ (s .args .left) _ q _ (w .0), wrote-shift _ _ (s .args .left) _ q _ _ _ (w .1))
 
 put-copy-requires : tie.Need-put-copy-requires
@@ -34,18 +34,18 @@ put-copy-requires c κs =
 add-copy-requires : tie.Need-add-copy-requires
 add-copy-requires c κs = search needs
 
-write-shift-requires-2 : tie.Need-write-shift-requires-2
-write-shift-requires-2 c κs =
+write-chain-requires-2 : tie.Need-write-chain-requires-2
+write-chain-requires-2 c κs =
     let s = c .before .before .before .before .before .before .before .before .before .before in
     let e = count-hand (s .args .left) (s .args .end) (c .before .before .before .before .before .before .before .if1 .left) in
     let n = plus-count _ _ 1 (c .before .before .add-copy .ensures) in
     (s .pre .0, s .pre .1, omega (arith, e, n, s .pre .2), omega (arith, e, n, s .pre .3, put-long _ _ _ _ (c .before .before .before .before .before .put-copy .ensures)))
 
 -- the copy from the hand is the factor's last
-last-one : (c : tie.After-write-shift2) → c .write-shift2 .result .copies + 1 ≡ c .before .before .before .before .before .before .before .before .before .before .before .args .tally .copies + walkCount (c .before .before .before .before .before .before .before .before .before .before .before .args .left) (c .before .before .before .before .before .before .before .before .before .before .before .args .end)
+last-one : (c : tie.After-write-chain2) → c .write-chain2 .result .copies + 1 ≡ c .before .before .before .before .before .before .before .before .before .before .before .args .tally .copies + walkCount (c .before .before .before .before .before .before .before .before .before .before .before .args .left) (c .before .before .before .before .before .before .before .before .before .before .before .args .end)
 last-one c =
     let s = c .before .before .before .before .before .before .before .before .before .before .before in
-    omega (arith, count-hand (s .args .left) (s .args .end) (c .before .before .before .before .before .before .before .before .if1 .left), plus-count _ _ 1 (c .before .before .before .add-copy .ensures), plus-count _ _ _ (c .write-shift2 .ensures .0))
+    omega (arith, count-hand (s .args .left) (s .args .end) (c .before .before .before .before .before .before .before .before .if1 .left), plus-count _ _ 1 (c .before .before .before .add-copy .ensures), plus-count _ _ _ (c .write-chain2 .ensures .0))
 
 cast-put-copy : tie.Need-cast-put-copy
 cast-put-copy c = let s = c .before .before .before .before .before .before .before .before .before .before .before .before .before .before in omega (arith, inside-here _ _ _ (s .pre .0), s .pre .1)
@@ -54,7 +54,7 @@ put-copy-requires-2 : tie.Need-put-copy-requires-2
 put-copy-requires-2 c κs =
     let s = c .before .before .before .before .before .before .before .before .before .before .before .before .before .before in
     let n = last-one (c .before .before .before) in
-    (omega (arith, n, s .pre .2), omega (arith, n, s .pre .3, put-long _ _ _ _ (c .before .before .before .write-shift2 .ensures .1), put-long _ _ _ _ (c .before .before .before .before .before .before .before .before .before .put-copy .ensures)))
+    (omega (arith, n, s .pre .2), omega (arith, n, s .pre .3, put-long _ _ _ _ (c .before .before .before .write-chain2 .ensures .1), put-long _ _ _ _ (c .before .before .before .before .before .before .before .before .before .put-copy .ensures)))
 
 add-copy-requires-2 : tie.Need-add-copy-requires-2
 add-copy-requires-2 c κs = omega (arith, last-one (c .before .before .before .before .before .before), c .before .before .before .before .before .before .before .before .before .before .before .before .before .before .before .before .before .pre .2)
@@ -67,7 +67,7 @@ returns-2 c =
     let s = c .before .before .before .before .before .before .before .before .before .before .before .before .before .before .before .before .before .before in
     let q = c .before .before .before .before .before .before .before .before .before .before .before .before .before .before .before .if1 .left in
     let h = c .before .before .before .before .before .before .before .before .before .before .add-copy .ensures in
-    let w = c .before .before .before .before .before .before .before .write-shift2 .ensures in (
+    let w = c .before .before .before .before .before .before .before .write-chain2 .ensures in (
       plus-hand _ (s .args .left) _ q _ _ _ h (w .0) (c .add-copy2 .ensures),
       wrote-hand _ _ (s .args .left) _ q _ _ _ _ _ _ _ _ refl (plus-count _ _ 1 h) (plus-count _ _ _ (w .0)) (c .before .before .before .before .before .before .before .before .before .before .before .before .before .put-copy .ensures) (w .1) (c .before .before .before .put-copy2 .ensures),
     )
@@ -76,12 +76,12 @@ pub write-walk-spec : {M : Type 1} → statement M
 write-walk-spec =
     tie.close
     (tie.spec
-    write-shift-requires
+    write-chain-requires
     same-length
     returns
     put-copy-requires
     add-copy-requires
-    write-shift-requires-2
+    write-chain-requires-2
     cast-put-copy
     put-copy-requires-2
     add-copy-requires-2
