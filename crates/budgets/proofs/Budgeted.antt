@@ -9,7 +9,7 @@ use Rattle.racks.specs.Job.{jobOf}
 use Rattle.racks.specs.declared.Job.{Job}
 use Rattle.moves.specs.Moves.{Held, carried}
 use Rattle.moves.specs.Phases.{budget, budgeted}
-use Rattle.mover.proofs.Outcomes.{outcome-cards}
+use Rattle.carrying.proofs.Outcomes.{outcome-cards}
 use Rattle.budgets.specs.parts.Budgeted.{budgetedBy}
 
 pub budgeted-by : (caps : List ℕ) (job : Job) → job ≡ jobOf (ofCaps caps) → (b : ℕ) (h : Held) (k : ℕ) → budgetedBy job b h k ≡ budgeted (ofCaps caps) b h k

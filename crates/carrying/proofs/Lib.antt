@@ -1,3 +1,4 @@
 pub mod CardLoops
 pub mod Flat
 pub mod Carries
+pub mod Outcomes

@@ -31,7 +31,7 @@ use Rattle.factors.proofs.Costs.{list-most}
 use Rattle.factors.proofs.Home.{list-proper}
 use Rattle.shuffle.specs.Shuffle.{settledHeld}
 use Rattle.runs.specs.Run.{gathered, counts}
-use Rattle.runs.proofs.Rounds.{all-counted}
+use Rattle.runs.proofs.Gathering.{all-counted}
 use Rattle.texts.specs.Lines.{endLine}
 use Rattle.runtexts.specs.RunText.{FILE, runText}
 use Rattle.listing.specs.Listing.{ENOUGH}

@@ -9,7 +9,7 @@ mod say;
 // Runs a job that was dealt, and says the answer and how many slots were wrong before and after.
 fn finish(name: &[u8], caps: &[u16], b: usize, deal: Deal, places: &mut [u16], cards: &mut [u8]) {
     let before = check::wrong_slots(deal, b, places, cards);
-    let answer = runs::whole_run(caps, b, places, cards);
+    let answer = runner::whole_run(caps, b, places, cards);
     saying::parts::say_answer(name, answer);
     let after = check::wrong_slots(deal, b, places, cards);
     say::say_wrong(before, after);

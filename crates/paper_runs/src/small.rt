@@ -14,7 +14,7 @@ fn say_shuffle(name: &[u8], caps: &[u16], b: usize, places: &mut [u16], cards: &
 }
 
 fn say_run(name: &[u8], caps: &[u16], b: usize, places: &mut [u16], cards: &mut [u8]) {
-    let answer = runs::whole_run(caps, b, places, cards);
+    let answer = runner::whole_run(caps, b, places, cards);
     saying::parts::say_outcome(name, answer, places, cards);
 }
 

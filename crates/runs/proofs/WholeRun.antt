@@ -19,7 +19,7 @@ use Rattle.shuffle.specs.Shuffle.{settledHeld}
 use Rattle.shuffle.specs.Home.{Home}
 use Rattle.shuffle.proofs.Homes.{moving-home}
 use Rattle.runs.specs.Run.{gathered, counts}
-use Rattle.runs.proofs.Rounds.{all-counted}
+use Rattle.runs.proofs.Gathering.{all-counted}
 
 module _ (racks : List Rack) (b : ℕ) (h : Held) (legal : Legal racks (h .places)) (spared : Spared racks) where
   -- moves counts the cards that were away

@@ -12,7 +12,7 @@ use Rattle.carrying.proofs.Flat.{pairs-between}
 use Rattle.texts.specs.Lines.{phaseLine, phaseLines}
 use Rattle.texts.specs.parts.Writing.{Room, Wrote}
 use Rattle.carrying.specs.parts.Carrying.{pairsIn}
-use Rattle.runs.specs.parts.Gathered.{ENDS, LOG, Logged}
+use Rattle.gathering.specs.parts.Gathered.{ENDS, LOG, Logged}
 use Rattle.runtexts.specs.parts.Logs.{madeBefore, phaseIn, phasesIn, Readable}
 use Rattle.texts.proofs.Writing.{Left, room-first, left-first, left-room, left-next, left-done}
 use Rattle.texts.proofs.Lines.{phase-lines}

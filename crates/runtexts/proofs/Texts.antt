@@ -25,11 +25,12 @@ use Rattle.copies.specs.parts.Writes.{putCopies}
 use Rattle.factors.proofs.Costs.{list-most}
 use Rattle.copies.proofs.Writing.{length-put-copies}
 use Rattle.shuffle.specs.Shuffle.{settledHeld}
-use Rattle.shuffler.specs.parts.Settled.{Shuffled}
+use Rattle.shuffle.specs.parts.Shuffled.{Shuffled}
 use Rattle.runs.specs.Run.{gathered, counts}
-use Rattle.runs.specs.parts.Gathered.{LOG, phaseCounts, PhasesMade, Ran}
-use Rattle.runs.proofs.Rounds.{all-counted, all-few}
-use Rattle.runs.proofs.Ending.{ends-chained, ends-long, ends-none, ends-ran}
+use Rattle.gathering.specs.parts.Gathered.{LOG, PhasesMade}
+use Rattle.runs.specs.parts.Ran.{phaseCounts, Ran}
+use Rattle.runs.proofs.Gathering.{all-counted, all-few}
+use Rattle.gathering.proofs.Ending.{ends-chained, ends-long, ends-none, ends-ran}
 use Rattle.texts.specs.Lines.{phaseLines, copiesLine, cardsLine, endLine}
 use Rattle.texts.specs.parts.Writing.{Room, Wrote}
 use Rattle.texts.proofs.Writing.{room-first, room-next, wrote-then}

@@ -142,7 +142,7 @@ pub extern "C" fn seineflute_whole_run(
 ) -> Answer
     ensures { λ r. ⌜ WholeRun (now (caps .entry)) b (held (now (places .entry)) (now (cards .entry))) (outcomeOf (answerOf r) (now (places .exit)) (now (cards .exit))) ⌝ }
 {
-    let answer = runs::whole_run(caps, b, places, cards);
+    let answer = runner::whole_run(caps, b, places, cards);
     flat::parts::numbers_of(answer)
 }
 

@@ -22,6 +22,8 @@ use Rattle.moves.specs.Blocks.{block, blank}
 use Rattle.moves.specs.Moves.{Held}
 use Rattle.moves.proofs.Blocks.{length-block, length-blank}
 use Rattle.factors.specs.Copies.{next}
+use Rattle.answers.specs.declared.Tally.{Tally}
+use Rattle.shuffle.specs.parts.Shuffled.{Shuffled}
 use Rattle.shuffle.specs.Shuffle.{brought, isNamed, lastEntry, lastCard, settledHeld}
 use Rattle.factors.specs.parts.Chains.{Chained}
 use Rattle.factors.proofs.Chains.{chained, next-is}
@@ -133,3 +135,12 @@ module _ (racks : List Rack) (b : ℕ) (h : Held) (d : ℕ) (l : d < slots racks
   -- all else is 65,535
   pub settled-free : isNamed (h .places) d ≡ false → dest (settledHeld racks b h .places) d ≡ FREE
   settled-free e = last-dest ∙ last-free (h .places) d e
+
+-- the table and the cards that the inner shuffle leaves are those of the definition
+pub settled-held : (racks : List Rack) (b : ℕ) (places cards : List ℕ) (tally after : Tally) (places′ cards′ : List ℕ) → length places ≡ slots racks → Shuffled b places cards tally after places′ cards′
+    → _≡_ {A = Held} (record { places = places′; cards = cards′ }) (settledHeld racks b (record { places = places; cards = cards }))
+unfolding settledHeld
+settled-held racks b places cards tally after places′ cards′ long w =
+    let p : places′ ≡ tabulate (slots racks) (lastEntry places) = w .settled .entries ∙ ap (λ (n : ℕ). tabulate n (lastEntry places)) long in
+    let c : cards′ ≡ join (tabulate (slots racks) (lastCard b places (brought b places cards))) = w .settled .bytes ∙ ap (λ (n : ℕ). join (tabulate n (lastCard b places (brought b places cards)))) long in
+    rw (p, c)

@@ -22,7 +22,8 @@ use Rattle.factors.specs.parts.Chains.{Chained}
 use Rattle.factors.specs.parts.Walks.{Sources}
 use Rattle.factors.proofs.Chains.{seek-hit, seek-found}
 use Rattle.shuffle.specs.Shuffle.{isNamed, lastEntry, lastCard}
-use Rattle.shuffler.specs.parts.Settled.{entryBy, SlotSettled, FreeListed, TableSettled, AllBelow, Zeroed, AllSettled}
+use Rattle.shuffler.specs.parts.Settled.{entryBy, SlotSettled, FreeListed, TableSettled, AllBelow, Zeroed}
+use Rattle.shuffle.specs.parts.Shuffled.{AllSettled}
 use Rattle.shuffle.proofs.Settled.{last-named, last-free, card-named, card-free, length-last, length-slots, block-slots}
 
 -- no card is bound for a slot exactly where no entry names it

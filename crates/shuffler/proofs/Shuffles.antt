@@ -1,33 +1,21 @@
--- The shuffle by a job: its number, what it leaves, and that it is the capacities'. Assumes nothing.
-use mathlib.Core.Path.{_≡_, ap, sym, _∙_}
+-- The shuffle by a job: its number, and that it is the capacities'. Assumes nothing.
+use mathlib.Core.Path.{_≡_, sym, _∙_}
 use mathlib.Core.Bool.{true, false}
 use mathlib.Core.List.{List, [], _∷_}
 use Prim.Native.Nat.{ℕ}
 use lib.ListN.{length}
-use Rattle.counting.specs.Lists.{tabulate, join}
 use Rattle.counting.proofs.Checks.{first-here, first-later, first-none, refusal-here, refusal-past}
 use Rattle.answers.specs.Answers.{copiesOf}
-use Rattle.answers.specs.declared.Tally.{Tally}
-use Rattle.racks.specs.Racks.{Rack, ofCaps, slots}
+use Rattle.racks.specs.Racks.{Rack, ofCaps}
 use Rattle.racks.specs.Numbers.{someAway}
 use Rattle.racks.specs.Job.{racksOf, jobOf}
 use Rattle.racks.specs.declared.Job.{Job}
 use Rattle.tables.specs.parts.Tables.{cardsNumber}
 use Rattle.moves.specs.Moves.{Held}
-use Rattle.mover.proofs.Outcomes.{outcome-checks}
+use Rattle.carrying.proofs.Outcomes.{outcome-checks}
 use Rattle.factors.specs.Copies.{copyList}
-use Rattle.shuffle.specs.Shuffle.{brought, lastEntry, lastCard, settledHeld, shuffleChecks, shuffled}
-use Rattle.shuffler.specs.parts.Settled.{Shuffled}
+use Rattle.shuffle.specs.Shuffle.{settledHeld, shuffleChecks, shuffled}
 use Rattle.shuffler.specs.parts.Shuffled.{shuffleNumber, shuffledBy}
-
--- the table and the cards that the inner shuffle leaves are those of the definition
-pub settled-held : (racks : List Rack) (b : ℕ) (places cards : List ℕ) (tally after : Tally) (places′ cards′ : List ℕ) → length places ≡ slots racks → Shuffled b places cards tally after places′ cards′
-    → _≡_ {A = Held} (record { places = places′; cards = cards′ }) (settledHeld racks b (record { places = places; cards = cards }))
-unfolding settledHeld
-settled-held racks b places cards tally after places′ cards′ long w =
-    let p : places′ ≡ tabulate (slots racks) (lastEntry places) = w .settled .entries ∙ ap (λ (n : ℕ). tabulate n (lastEntry places)) long in
-    let c : cards′ ≡ join (tabulate (slots racks) (lastCard b places (brought b places cards))) = w .settled .bytes ∙ ap (λ (n : ℕ). join (tabulate n (lastCard b places (brought b places cards)))) long in
-    rw (p, c)
 
 module _ (job : Job) (b : ℕ) (h : Held) where
   -- refused by the table and its cards

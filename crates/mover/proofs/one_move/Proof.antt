@@ -1,6 +1,6 @@
 use mathlib.Core.Path.{_∙_}
 use Rattle.racks.proofs.Jobs.{of-sound}
-use Rattle.mover.proofs.Outcomes.{moved-by}
+use Rattle.mover.proofs.Moved.{moved-by}
 use borrow.Author.Needs.{needs}
 use Rattle.mover.proofs.one_move.Statement.{statement}
 use Rattle.mover.proofs.one_move.Tie as tie

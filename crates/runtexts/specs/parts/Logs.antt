@@ -5,7 +5,7 @@ use lib.ListN.{length, getD}
 use Rattle.counting.specs.Lists.{Pair, tabulate}
 use Rattle.racks.specs.Limits.{SLOTS}
 use Rattle.carrying.specs.parts.Carrying.{pairsIn}
-use Rattle.runs.specs.parts.Gathered.{ENDS, LOG}
+use Rattle.gathering.specs.parts.Gathered.{ENDS, LOG}
 
 -- how many moves were made before phase j
 unfoldable pub madeBefore : List ℕ → ℕ → ℕ

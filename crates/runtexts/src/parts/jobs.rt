@@ -54,8 +54,8 @@ pub fn put_run(
     requires { ⌜ Open job (now places) (now racking) × Spared (racksOf job) × (length (now cards) ≡ slots (racksOf job) * b) × (b ≤ BYTES) × Room (runText (racksOf job) b (held (now places) (now cards))) 0 (now out) ⌝ }
     ensures { λ r. ⌜ Wrote (runText (racksOf job) b (held (now (places .entry)) (now (cards .entry)))) (now (out .entry)) 0 (now (out .exit)) r ⌝ }
 {
-    let mut log = [0u16; runs::parts::rounds::LOG];
-    let made = runs::parts::make_phases(job, b, places, cards, racking, &mut log);
+    let mut log = [0u16; gathering::parts::rounds::LOG];
+    let made = gathering::parts::make_phases(job, b, places, cards, racking, &mut log);
     let mut next = phasing::put_phases(out, &log, made.phases);
     next = put_copy_list(out, next, places, racking, &mut log);
     walks::clear_sources(&mut log, places.len());

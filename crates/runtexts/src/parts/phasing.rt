@@ -2,7 +2,7 @@
 ghost use Rattle.texts.specs.Lines.{phaseLines};
 ghost use Rattle.texts.specs.parts.Writing.{Room, Wrote};
 ghost use Rattle.runtexts.specs.parts.Logs.{phasesIn, Readable};
-use runs::parts::rounds;
+use gathering::parts::rounds;
 use texts::parts::lines;
 
 // The lines of the first n phases of a run's log, from the front of the buffer; the position behind them.

@@ -6,13 +6,11 @@ use Prim.Native.Nat.{ℕ, _+_, _≤_, _<_}
 use lib.Dec.{eqb}
 use lib.ListN.{length, getD, set}
 use Rattle.counting.specs.Tests.{pick, bit}
-use Rattle.counting.specs.Lists.{tabulate, join}
+use Rattle.counting.specs.Lists.{tabulate}
 use Rattle.racks.specs.Limits.{FREE, SOURCES}
 use Rattle.moves.specs.Blocks.{block, blank}
-use Rattle.answers.specs.Answers.{plusCopies}
-use Rattle.answers.specs.declared.Tally.{Tally}
-use Rattle.factors.specs.Copies.{source, copyList}
-use Rattle.shuffle.specs.Shuffle.{brought, lastEntry, lastCard}
+use Rattle.factors.specs.Copies.{source}
+use Rattle.shuffle.specs.Shuffle.{lastEntry}
 
 -- slot d's entry at the end, by the slot whose card is bound for it
 unfoldable pub entryBy : ℕ → ℕ → ℕ
@@ -46,13 +44,3 @@ pub record Zeroed (b : ℕ) (frees : List ℕ) (n : ℕ) (cards cards′ : List 
   pub done : (i : ℕ) → i < n → block b (getD frees i 0) cards′ ≡ blank b
   pub rest : (g : ℕ) → ((i : ℕ) → i < n → getD frees i 0 ≢ g) → block b g cards′ ≡ block b g cards
   pub size : length cards′ ≡ length cards
-
--- the table and the cards at the end, after the copies: settled slots name themselves, free slots are zeroed
-pub record AllSettled (b : ℕ) (places cards places′ cards′ : List ℕ) : Type 0 where
-  pub entries : places′ ≡ tabulate (length places) (lastEntry places)
-  pub bytes : cards′ ≡ join (tabulate (length places) (lastCard b places cards))
-
--- the shuffle of an accepted table with nothing away: copies added to the tally, the table and the cards at the end
-pub record Shuffled (b : ℕ) (places cards : List ℕ) (tally after : Tally) (places′ cards′ : List ℕ) : Type 0 where
-  pub count-is : after ≡ plusCopies (length (copyList places)) tally
-  pub settled : AllSettled b places (brought b places cards) places′ cards′

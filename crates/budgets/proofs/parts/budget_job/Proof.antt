@@ -7,7 +7,7 @@ use Rattle.racks.proofs.Jobs.{sound-refused}
 use Rattle.tables.specs.parts.Tables.{OpenCards, cardsNumber}
 use Rattle.moves.specs.Moves.{carried, held}
 use Rattle.moves.specs.Phases.{budget}
-use Rattle.mover.proofs.Outcomes.{outcome-refused, outcome-done}
+use Rattle.carrying.proofs.Outcomes.{outcome-refused, outcome-done}
 use Rattle.budgets.specs.parts.Budgeted.{budgetedBy}
 use borrow.Author.Needs.{needs}
 use Rattle.budgets.proofs.parts.budget_job.Statement.{statement}

@@ -1,7 +1,7 @@
 use mathlib.Core.Path.{refl, sym, _∙_}
 use Rattle.mover.specs.parts.Moving.{movedBy}
 use Rattle.moves.specs.Moves.{held}
-use Rattle.mover.proofs.Outcomes.{outcome-refused, outcome-done}
+use Rattle.carrying.proofs.Outcomes.{outcome-refused, outcome-done}
 use borrow.Author.Needs.{needs}
 use Rattle.mover.proofs.parts.move_job.Statement.{statement}
 use Rattle.mover.proofs.parts.move_job.Tie as tie

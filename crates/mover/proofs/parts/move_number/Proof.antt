@@ -1,6 +1,6 @@
 use mathlib.Core.Path.{sym, _∙_}
 use Rattle.moves.specs.Moves.{held}
-use Rattle.mover.proofs.Outcomes.{move-refused, move-ends}
+use Rattle.mover.proofs.Moved.{move-refused, move-ends}
 use borrow.Author.Needs.{needs}
 use Rattle.mover.proofs.parts.move_number.Statement.{statement}
 use Rattle.mover.proofs.parts.move_number.Tie as tie

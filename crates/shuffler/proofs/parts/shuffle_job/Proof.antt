@@ -9,14 +9,15 @@ use Rattle.racks.specs.Numbers.{someAway}
 use Rattle.racks.specs.Job.{racksOf}
 use Rattle.tables.specs.parts.Tables.{OpenCards, cardsNumber}
 use Rattle.moves.specs.Moves.{held}
-use Rattle.mover.proofs.Outcomes.{outcome-refused, outcome-done}
+use Rattle.carrying.proofs.Outcomes.{outcome-refused, outcome-done}
 use Rattle.factors.specs.Copies.{copyList}
 use Rattle.factors.proofs.Marks.{racking-counted}
 use Rattle.factors.proofs.Sourced.{made-none}
 use Rattle.copies.proofs.Accepted.{open-chained, open-away}
 use Rattle.shuffle.specs.Shuffle.{settledHeld}
 use Rattle.shuffler.specs.parts.Shuffled.{shuffleNumber, shuffledBy}
-use Rattle.shuffler.proofs.Shuffles.{settled-held, shuffled-table, shuffled-away, shuffled-none}
+use Rattle.shuffle.proofs.Settled.{settled-held}
+use Rattle.shuffler.proofs.Shuffles.{shuffled-table, shuffled-away, shuffled-none}
 use borrow.Author.Needs.{needs}
 use Rattle.shuffler.proofs.parts.shuffle_job.Statement.{statement}
 use Rattle.shuffler.proofs.parts.shuffle_job.Tie as tie
