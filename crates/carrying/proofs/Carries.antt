@@ -7,7 +7,7 @@ use native.Mathlib.Omega.{arith}
 use lib.ListN.{length, getD, set}
 use Rattle.counting.specs.Lists.{Pair}
 use Rattle.racks.specs.Limits.{FREE}
-use Rattle.racks.specs.Table.{dest}
+use Rattle.racks.proofs.Table.{read-dest}
 use Rattle.answers.specs.Answers.{plusMove, plusMoves}
 use Rattle.answers.specs.declared.Tally.{Tally}
 use Rattle.moves.specs.Blocks.{block, putBlock, blank}
@@ -16,10 +16,10 @@ use Rattle.carrying.specs.parts.Carrying.{pairsIn}
 use Rattle.carrying.proofs.Flat.{pairs-more, pairs-none}
 
 -- one card moved: its entry, then its bytes copied, then its old slot blanked
-pub moved-held : (b f t : ℕ) (places cards copied blanked : List ℕ) → copied ≡ putBlock b t (block b f cards) cards → blanked ≡ putBlock b f (blank b) copied
-    → held (set (set places t (dest places f)) f FREE) blanked ≡ carried b ((f, t) ∷ []) (held places cards)
+pub moved-held : (b f t : ℕ) (places cards copied blanked : List ℕ) → f < length places → copied ≡ putBlock b t (block b f cards) cards → blanked ≡ putBlock b f (blank b) copied
+    → held (set (set places t (getD places f 0)) f FREE) blanked ≡ carried b ((f, t) ∷ []) (held places cards)
 unfolding carriedPlaces carriedCards movedPlaces movedCards
-moved-held b f t places cards copied blanked p q = rw (q, p)
+moved-held b f t places cards copied blanked l p q = rw (q, p, read-dest places f l)
 
 module _ (list : List ℕ) (i high : ℕ) (fits : high ≤ length list) where
   -- the first of the moves left is made: those after it give the same

@@ -16,7 +16,7 @@ use Rattle.racks.specs.Numbers.{badCount, badBytes, tooLarge, badSize, badPlace
 use Rattle.plans.specs.Plan.{other, sources, lowest, granted, openSlots, room, arrivals, planFor, plan, planChecks, planned}
 use Rattle.moves.specs.Blocks.{block, putBlock, blank}
 use Rattle.moves.specs.Phases.{phasesFrom, phases, budget, budgeted}
-use Rattle.factors.specs.Copies.{next, source, following, onward, back, onCycle, head, factor, factorsFrom, factors, shift, cycle, copies, copyList}
+use Rattle.factors.specs.Copies.{source, following, onward, back, onCycle, head, factor, factorsFrom, factors, shift, cycle, copies, copyList}
 use Rattle.shuffle.specs.Shuffle.{taken, laid, runCopies, brought, isNamed, lastEntry, lastCard, settledHeld, copyMade}
 use Rattle.runs.specs.Run.{gathered, hasPairs, counts, ran}
 use Rattle.demands.specs.Paper.{caps1, held1}
@@ -65,5 +65,5 @@ pub record Cases : Type 0 where
   pub budgeted-none : budgeted (ofCaps []) 1 held10 4 ≡ refused10
 
 pub cases : Cases
-unfolding _and_ _or_ sum count some select seek tabulate join each pairUp flat matching among last first ofCaps rackAt users width total base slots endsBy rackOf spareOf isUser free settled rackTo onRack away aways awayTo bound owes freeOn names badCount badBytes tooLarge badSize badPlaces badCards badEntry badEntries repeats badTwice someAway tooShort tableChecks placesChecks rackChecks cardChecks other sources lowest granted openSlots room arrivals planFor plan planChecks planned block putBlock blank movedPlaces movedCards carriedPlaces carriedCards phasesFrom phases budget budgeted next source following onward back onCycle head factor factorsFrom factors shift cycle copies copyList taken laid copyMade runCopies brought isNamed lastEntry lastCard settledHeld gathered hasPairs counts ran
+unfolding _and_ _or_ sum count some select seek tabulate join each pairUp flat matching among last first ofCaps rackAt users width total base slots endsBy rackOf spareOf isUser free settled rackTo onRack away aways awayTo bound owes freeOn names badCount badBytes tooLarge badSize badPlaces badCards badEntry badEntries repeats badTwice someAway tooShort tableChecks placesChecks rackChecks cardChecks other sources lowest granted openSlots room arrivals planFor plan planChecks planned block putBlock blank movedPlaces movedCards carriedPlaces carriedCards phasesFrom phases budget budgeted source following onward back onCycle head factor factorsFrom factors shift cycle copies copyList taken laid copyMade runCopies brought isNamed lastEntry lastCard settledHeld gathered hasPairs counts ran
 cases = record { ran1 = refl; phases1 = refl; plan-is = refl; away1 = refl; aways1 = refl; ran10 = refl; budgeted10 = refl; ran-none = refl; budgeted-none = refl }

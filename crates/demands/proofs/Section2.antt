@@ -9,12 +9,11 @@ use Rattle.counting.specs.Lists.{last}
 use Rattle.counting.proofs.Every.{all-map}
 use Rattle.racks.specs.Limits.{FREE, HAND}
 use Rattle.racks.specs.Table.{dest}
-use Rattle.factors.specs.Copies.{next, source, onward, head, factor, shift, cycle, copyList}
+use Rattle.factors.specs.Copies.{source, onward, head, factor, shift, cycle, copyList}
 use Rattle.factors.specs.parts.Chains.{Chained}
 use Rattle.counting.specs.Every.{In}
-use Rattle.factors.proofs.Members.{last-in}
 use Rattle.factors.proofs.Walks.{Path, Ends}
-use Rattle.factors.proofs.Chains.{next-is, source-next, onward-low, onward-path, onward-ends, head-low, head-cases, shift-ends, cycle-ends}
+use Rattle.factors.proofs.Chains.{source-dest, onward-low, onward-path, onward-ends, head-low, head-cases, shift-ends, cycle-ends}
 use Rattle.factors.specs.Factors.{Lowest}
 use Rattle.factors.proofs.Factors.{factors-lowest, factors-ascend, factors-once, factors-all, factors-slots}
 use Rattle.factors.proofs.Costs.{copies-shift, copies-cycle, cost-shift, cost-cycle, cost-settled, list-most}
@@ -33,42 +32,41 @@ cycle-is : (x y : ℕ) (l : List ℕ) → cycle x (y ∷ l) ≡ (last y l, HAND)
 unfolding cycle
 cycle-is x y l = rw (shift-is x (y ∷ l))
 
-module _ {places : List ℕ} (ok : Chained places) where
-  follows : (s x : ℕ) (l : List ℕ) → Path (next places) s x l → ((v : ℕ) → In v (x ∷ l) → v < length places) → Leads places x l
-  follows s x [] p low = tt
-  follows s x (y ∷ l) p low = (sym (next-is places x (low x (inl refl))) ∙ p .0, follows s y l (p .3) (λ v m. low v (inr m)))
+leads : (places : List ℕ) (s x : ℕ) (l : List ℕ) → Path (dest places) s x l → Leads places x l
+leads places s x [] p = tt
+leads places s x (y ∷ l) p = (p .0, leads places s y l (p .3))
 
+module _ {places : List ℕ} (ok : Chained places) where
   -- where a card goes to slot x, it has a source
   has-source : (g x : ℕ) → g < length places → x < length places → dest places g ≡ x → source places x ≢ FREE
   has-source g x l m e =
-      let i : next places g ≡ x = next-is places g l ∙ e in
-      let s : source places x ≡ g = ap (source places) (sym i) ∙ source-next ok g (λ u. omega (arith, sym i ∙ u, ok .small)) in
+      let s : source places x ≡ g = ap (source places) (sym e) ∙ source-dest ok g (λ u. omega (arith, sym e ∙ u, ok .small)) in
       λ u. omega (arith, sym s ∙ u, ok .small)
 
   -- a chain from its first slot x; k is the lowest slot
   module _ (k x : ℕ) where
-    chain : (l : List ℕ) → Lowest k (x ∷ l) → ((v : ℕ) → In v (x ∷ l) → v < length places) → Path (next places) x x l → Ends x (next places (last x l))
-        → (next places (last x l) ≡ x → x ≡ k) → (source places x ≢ FREE → next places (last x l) ≡ x) → Factor places (x ∷ l)
+    chain : (l : List ℕ) → Lowest k (x ∷ l) → ((v : ℕ) → In v (x ∷ l) → v < length places) → Path (dest places) x x l → Ends x (dest places (last x l))
+        → (dest places (last x l) ≡ x → x ≡ k) → (source places x ≢ FREE → dest places (last x l) ≡ x) → Factor places (x ∷ l)
     unfolding last
     chain l f low p (inl e) c d =
         isShift {x = x} {l = l} (record {
           starts = λ g m q. absurd (omega (arith, sym e ∙ d (has-source g x m (low x (inl refl)) q), low x (inl refl), ok .small));
-          follows = follows x x l p low;
-          ends = sym (next-is places (last x l) (low (last x l) (last-in x l))) ∙ e;
+          follows = leads places x x l p;
+          ends = e;
           copies-are = copies-shift places x l e ∙ shift-is x l;
           cost = cost-shift places x l e;
         })
     chain [] f low p (inr e) c d =
         isSettled {x = x} (record {
-          stays = sym (next-is places x (low x (inl refl))) ∙ e;
+          stays = e;
           none = cost-settled places x (λ u. omega (arith, sym e ∙ u, low x (inl refl), ok .small));
         })
     chain (y ∷ l) f low p (inr e) c d =
-        let q : next places (last x (y ∷ l)) ≢ FREE = λ u. omega (arith, sym e ∙ u, low x (inl refl), ok .small) in
+        let q : dest places (last x (y ∷ l)) ≢ FREE = λ u. omega (arith, sym e ∙ u, low x (inl refl), ok .small) in
         isCycle {x = x} {y = y} {l = l} (record {
           lowest = λ v m. omega (arith, f .least v m, c e);
-          follows = follows x x (y ∷ l) p low;
-          ends = sym (next-is places (last y l) (low (last y l) (inr (last-in y l)))) ∙ e;
+          follows = leads places x x (y ∷ l) p;
+          ends = e;
           copies-are = copies-cycle places x (y ∷ l) q ∙ cycle-is x y l;
           cost = cost-cycle places x y l q;
         })

@@ -19,7 +19,7 @@ use Rattle.tables.specs.Check.{checked}
 use Rattle.plans.specs.Plan.{other, sources, lowest, granted, openSlots, room, arrivals, planFor, plan}
 use Rattle.moves.specs.Blocks.{block, putBlock, blank}
 use Rattle.moves.specs.Phases.{phasesFrom, phases, budget, budgeted}
-use Rattle.factors.specs.Copies.{next, source, following, onward, back, onCycle, head, factor, factorsFrom, factors, shift, cycle, copies, copyList}
+use Rattle.factors.specs.Copies.{source, following, onward, back, onCycle, head, factor, factorsFrom, factors, shift, cycle, copies, copyList}
 use Rattle.shuffle.specs.Shuffle.{taken, laid, runCopies, brought, isNamed, lastEntry, lastCard, settledHeld, copyMade}
 use Rattle.runs.specs.Run.{gathered, hasPairs, counts}
 use Rattle.numerals.specs.Numeral.{groups, numeral, numerals, lastGroup}
@@ -132,5 +132,5 @@ pub record Paper : Type 0 where
   pub eight-long : refusesNumeral (0x80 ∷ 0x80 ∷ 0x80 ∷ []) 14
 
 pub paper : Paper
-unfolding _and_ _or_ sum count some select seek tabulate join each pairUp flat matching among last first ofCaps rackAt users width total base slots endsBy rackOf spareOf isUser free settled rackTo onRack away aways awayTo bound owes freeOn names badCount badBytes tooLarge badSize badPlaces badCards badEntry badEntries repeats badTwice noSlot sourceFree sourceHome elsewhere targetTaken someAway tooShort tableChecks placesChecks rackChecks cardChecks checked other sources lowest granted openSlots room arrivals planFor plan block putBlock blank movedPlaces movedCards carriedPlaces carriedCards endChecks moveChecks moved phasesFrom phases budget budgeted next source following onward back onCycle head factor factorsFrom factors shift cycle copies copyList taken laid copyMade runCopies brought isNamed lastEntry lastCard settledHeld gathered hasPairs counts groups lastGroup numeral numerals wrongN wrongB wrongM wrongEntry entryOf readN readB readM fileRacks readEntries fileBytes filePlaces fileCards fileChecks digit digits decimal hex slotText arrow phaseLine phaseLines copiesLine cardText cardsLine endLine refusedLine programChecks fileHeld runText listing
+unfolding _and_ _or_ sum count some select seek tabulate join each pairUp flat matching among last first ofCaps rackAt users width total base slots endsBy rackOf spareOf isUser free settled rackTo onRack away aways awayTo bound owes freeOn names badCount badBytes tooLarge badSize badPlaces badCards badEntry badEntries repeats badTwice noSlot sourceFree sourceHome elsewhere targetTaken someAway tooShort tableChecks placesChecks rackChecks cardChecks checked other sources lowest granted openSlots room arrivals planFor plan block putBlock blank movedPlaces movedCards carriedPlaces carriedCards endChecks moveChecks moved phasesFrom phases budget budgeted source following onward back onCycle head factor factorsFrom factors shift cycle copies copyList taken laid copyMade runCopies brought isNamed lastEntry lastCard settledHeld gathered hasPairs counts groups lastGroup numeral numerals wrongN wrongB wrongM wrongEntry entryOf readN readB readM fileRacks readEntries fileBytes filePlaces fileCards fileChecks digit digits decimal hex slotText arrow phaseLine phaseLines copiesLine cardText cardsLine endLine refusedLine programChecks fileHeld runText listing
 paper = record { shelve = refl; budget4 = refl; one-left = refl; budget0 = refl; budget9 = refl; three = (refl, refl); four = (refl, refl); five = (refl, refl); six-10 = refl; six-8 = refl; six-7 = refl; six-11 = refl; six-9 = refl; seven-spare = refl; seven-twice = refl; seven-both = refl; eight-128 = refl; eight-16384 = refl; eight-padded = refl; eight-cut = refl; eight-long = refl }

@@ -10,10 +10,11 @@ use lib.ListN.{length}
 use Rattle.counting.specs.Tests.{_or_}
 use Rattle.counting.specs.Lists.{among, last}
 use Rattle.racks.specs.Limits.{FREE}
-use Rattle.factors.specs.Copies.{next, source, onward, back}
+use Rattle.racks.specs.Table.{dest}
+use Rattle.factors.specs.Copies.{source, onward, back}
 use Rattle.factors.specs.parts.Chains.{Chained}
 use Rattle.factors.proofs.Walks.{Path}
-use Rattle.factors.proofs.Chains.{next-source, onward-path, back-path, shift-ends}
+use Rattle.factors.proofs.Chains.{dest-source, onward-path, back-path, shift-ends}
 
 -- the way back turned round, before what follows x
 ahead : ℕ → List ℕ → List ℕ → List ℕ
@@ -57,21 +58,21 @@ among-ahead v x [] rest = refl
 among-ahead v x (y ∷ l) rest = among-ahead v y l (x ∷ rest) ∙ or-turn (among v l) (eqb v y) (among v (x ∷ rest))
 
 module _ {places : List ℕ} (ok : Chained places) where
-  ahead-free : (s x : ℕ) (l rest : List ℕ) → x ≢ FREE → Path (source places) s x l → FreePath (next places) x rest → FreePath (next places) (last x l) (ahead x l rest)
+  ahead-free : (s x : ℕ) (l rest : List ℕ) → x ≢ FREE → Path (source places) s x l → FreePath (dest places) x rest → FreePath (dest places) (last x l) (ahead x l rest)
   unfolding ahead last
   ahead-free s x [] rest q p r = r
   ahead-free s x (y ∷ l) rest q p r =
-      let e : next places y ≡ x = ap (next places) (sym (p .0)) ∙ next-source ok x (rw (p .0) (p .1)) in
+      let e : dest places y ≡ x = ap (dest places) (sym (p .0)) ∙ dest-source ok x (rw (p .0) (p .1)) in
       ahead-free s y l (x ∷ rest) (p .1) (p .3) (e, q, r)
 
   -- slot k is on a shift: from its first slot on
-  module _ (k : ℕ) (low : k < length places) (ends : next places (last k (onward places k)) ≡ FREE) (start : source places (last k (back places k)) ≡ FREE) (here : last k (back places k) < length places) where
+  module _ (k : ℕ) (low : k < length places) (ends : dest places (last k (onward places k)) ≡ FREE) (start : source places (last k (back places k)) ≡ FREE) (here : last k (back places k) < length places) where
     onward-is : onward places (last k (back places k)) ≡ ahead k (back places k) (onward places k)
     onward-is =
         let h : ℕ = last k (back places k) in
-        free-one (next places) h (onward places h) (ahead k (back places k) (onward places k))
-        (path-free (next places) h h (onward places h) (onward-path ok h here) (shift-ends ok h here start))
-        (ahead-free k k (back places k) (onward places k) (omega (arith, ok .small)) (back-path ok k low) (path-free (next places) k k (onward places k) (onward-path ok k low) ends))
+        free-one (dest places) h (onward places h) (ahead k (back places k) (onward places k))
+        (path-free (dest places) h h (onward places h) (onward-path ok h here) (shift-ends ok h here start))
+        (ahead-free k k (back places k) (onward places k) (omega (arith, ok .small)) (back-path ok k low) (path-free (dest places) k k (onward places k) (onward-path ok k low) ends))
 
     -- as many slots follow
     pub behind-count : length (onward places (last k (back places k))) ≡ length (back places k) + length (onward places k)

@@ -10,7 +10,8 @@ use borrow.Author.Tests.{eq-eqb, ne-eqb}
 use Rattle.counting.specs.Lists.{last, join, each}
 use Rattle.counting.proofs.Tests.{by-test}
 use Rattle.racks.specs.Limits.{FREE}
-use Rattle.factors.specs.Copies.{next, shift, cycle, copies, factors, copyList}
+use Rattle.racks.specs.Table.{dest}
+use Rattle.factors.specs.Copies.{shift, cycle, copies, factors, copyList}
 use Rattle.factors.specs.parts.Chains.{Chained}
 use Rattle.factors.proofs.Members.{pigeon}
 use Rattle.factors.proofs.Factors.{factors-once, factors-slots}
@@ -28,25 +29,25 @@ length-cycle x y l = simp (length-append, length-shift) (omega arith)
 
 module _ (places : List ℕ) (x : ℕ) (l : List ℕ) where
   -- the copies of a shift
-  pub copies-shift : next places (last x l) ≡ FREE → copies places (x ∷ l) ≡ shift x l
+  pub copies-shift : dest places (last x l) ≡ FREE → copies places (x ∷ l) ≡ shift x l
   unfolding copies
-  copies-shift e = rw (eq-eqb (next places (last x l)) FREE e)
+  copies-shift e = rw (eq-eqb (dest places (last x l)) FREE e)
 
   -- the copies of a cycle
-  pub copies-cycle : next places (last x l) ≢ FREE → copies places (x ∷ l) ≡ cycle x l
+  pub copies-cycle : dest places (last x l) ≢ FREE → copies places (x ∷ l) ≡ cycle x l
   unfolding copies
-  copies-cycle q = rw (ne-eqb (next places (last x l)) FREE q)
+  copies-cycle q = rw (ne-eqb (dest places (last x l)) FREE q)
 
   -- a shift of n slots, its free end among them, costs n - 1 copies; so a lone free slot none
-  pub cost-shift : next places (last x l) ≡ FREE → length (copies places (x ∷ l)) + 1 ≡ length (x ∷ l)
+  pub cost-shift : dest places (last x l) ≡ FREE → length (copies places (x ∷ l)) + 1 ≡ length (x ∷ l)
   cost-shift e = rw (copies-shift e) (omega (arith, length-shift x l))
 
 -- a cycle of n slots, 2 or more, costs n + 1
-pub cost-cycle : (places : List ℕ) (x y : ℕ) (l : List ℕ) → next places (last x (y ∷ l)) ≢ FREE → length (copies places (x ∷ y ∷ l)) ≡ length (x ∷ y ∷ l) + 1
+pub cost-cycle : (places : List ℕ) (x y : ℕ) (l : List ℕ) → dest places (last x (y ∷ l)) ≢ FREE → length (copies places (x ∷ y ∷ l)) ≡ length (x ∷ y ∷ l) + 1
 cost-cycle places x y l q = rw (copies-cycle places x (y ∷ l) q) (omega (arith, length-cycle x y l))
 
 -- a settled card costs none
-pub cost-settled : (places : List ℕ) (x : ℕ) → next places x ≢ FREE → copies places (x ∷ []) ≡ []
+pub cost-settled : (places : List ℕ) (x : ℕ) → dest places x ≢ FREE → copies places (x ∷ []) ≡ []
 unfolding cycle last
 cost-settled places x q = copies-cycle places x [] q
 
@@ -54,9 +55,9 @@ cost-settled places x q = copies-cycle places x [] q
 cost-most : (places l : List ℕ) → 2 * length (copies places l) ≤ 3 * length l
 unfolding copies cycle
 cost-most places [] = omega arith
-cost-most places (x ∷ []) = by-test (eqb (next places (last x [])) FREE) (λ t. rw t (omega (arith, length-shift x []))) (λ t. rw t (omega arith))
+cost-most places (x ∷ []) = by-test (eqb (dest places (last x [])) FREE) (λ t. rw t (omega (arith, length-shift x []))) (λ t. rw t (omega arith))
 cost-most places (x ∷ y ∷ l) =
-    by-test (eqb (next places (last x (y ∷ l))) FREE) (λ t. rw t (omega (arith, length-shift x (y ∷ l)))) (λ t. rw t (omega (arith, length-cycle x y l)))
+    by-test (eqb (dest places (last x (y ∷ l))) FREE) (λ t. rw t (omega (arith, length-shift x (y ∷ l)))) (λ t. rw t (omega (arith, length-cycle x y l)))
 
 join-most : (places : List ℕ) (l : List (List ℕ)) → 2 * length (join (each (copies places) l)) ≤ 3 * length (join l)
 unfolding join each

@@ -16,12 +16,12 @@ use Rattle.counting.proofs.Lists.{matching-append}
 use Rattle.counting.proofs.Count.{count-zero, count-cong, count-change}
 use Rattle.racks.specs.Limits.{FREE}
 use Rattle.racks.specs.Table.{dest, free, settled}
-use Rattle.factors.specs.Copies.{next, onward, head, factor, copies, factors, copyList}
+use Rattle.factors.specs.Copies.{onward, head, factor, copies, factors, copyList}
 use Rattle.factors.specs.parts.Chains.{Chained}
 use Rattle.counting.specs.Every.{In, Distinct}
 use Rattle.factors.proofs.Members.{in-among, among-off, among-none, among-other, last-in}
 use Rattle.factors.proofs.Walks.{Path, Ends}
-use Rattle.factors.proofs.Chains.{next-is, head-low, onward-low, onward-distinct, onward-path, onward-ends}
+use Rattle.factors.proofs.Chains.{head-low, onward-distinct, onward-path, onward-ends}
 use Rattle.factors.proofs.Factors.{Factored, factors-are, factors-once, factors-all, factors-slots}
 use Rattle.factors.proofs.Factors.Factored.{ended, began}
 use Rattle.factors.proofs.Costs.{length-shift, length-cycle, copies-shift, copies-cycle, cost-settled}
@@ -56,57 +56,55 @@ module _ {places : List ℕ} (ok : Chained places) where
   no-free : (v : ℕ) → v < length places → v ≢ FREE
   no-free v l = omega (arith, ok .small)
 
-  module _ (g : ℕ) (low : g < length places) where
-    moves-on : next places g ≢ FREE → next places g ≢ g → unsettled places g ≡ true
+  module _ (g : ℕ) where
+    moves-on : dest places g ≢ FREE → dest places g ≢ g → unsettled places g ≡ true
     unfolding unsettled free settled
-    moves-on p q = let e = next-is places g low in both (not-off (ne-eqb (dest places g) FREE (λ u. p (e ∙ u)))) (not-off (ne-eqb (dest places g) g (λ u. q (e ∙ u))))
+    moves-on p q = both (not-off (ne-eqb (dest places g) FREE p)) (not-off (ne-eqb (dest places g) g q))
 
-    is-free : next places g ≡ FREE → unsettled places g ≡ false
+    is-free : dest places g ≡ FREE → unsettled places g ≡ false
     unfolding unsettled free
-    is-free p = and-off-l _ (ap not (eq-eqb (dest places g) FREE (sym (next-is places g low) ∙ p)))
+    is-free p = and-off-l _ (ap not (eq-eqb (dest places g) FREE p))
 
-    stays-put : next places g ≡ g → unsettled places g ≡ false
+    stays-put : dest places g ≡ g → unsettled places g ≡ false
     unfolding unsettled settled
-    stays-put p = and-off-r (not (free places g)) (ap not (eq-eqb (dest places g) g (sym (next-is places g low) ∙ p)))
+    stays-put p = and-off-r (not (free places g)) (ap not (eq-eqb (dest places g) g p))
 
   -- every card of a chain but the last is not settled
-  chain-unsettled : (s x : ℕ) (l : List ℕ) → Path (next places) s x l → Distinct (x ∷ l) → ((v : ℕ) → In v (x ∷ l) → v < length places)
+  chain-unsettled : (s x : ℕ) (l : List ℕ) → Path (dest places) s x l → Distinct (x ∷ l)
       → matching (unsettled places) (x ∷ l) ≡ length l + bit (unsettled places (last x l))
   unfolding matching last
-  chain-unsettled s x [] p d b = omega arith
-  chain-unsettled s x (y ∷ l) p d b =
-      let t = moves-on x (b x (inl refl)) (rw (p .0) (p .1)) (rw (p .0) (λ e. d .0 (inl (sym e)))) in
-      omega (arith, ap bit t, chain-unsettled s y l (p .3) (d .1) (λ v m. b v (inr m)))
+  chain-unsettled s x [] p d = omega arith
+  chain-unsettled s x (y ∷ l) p d =
+      let t = moves-on x (rw (p .0) (p .1)) (rw (p .0) (λ e. d .0 (inl (sym e)))) in
+      omega (arith, ap bit t, chain-unsettled s y l (p .3) (d .1))
 
   -- a chain costs a copy for each card that is not settled, and one more if it is a cycle
-  chain-cost : (x : ℕ) (l : List ℕ) → Path (next places) x x l → Distinct (x ∷ l) → ((v : ℕ) → In v (x ∷ l) → v < length places) → Ends x (next places (last x l))
+  chain-cost : (x : ℕ) (l : List ℕ) → Path (dest places) x x l → Distinct (x ∷ l) → x < length places → Ends x (dest places (last x l))
       → length (copies places (x ∷ l)) ≡ matching (unsettled places) (x ∷ l) + bit (turning places (x ∷ l))
   unfolding turning last
   chain-cost x [] p d b (inl e) =
-      omega (arith, ap length (copies-shift places x [] e), length-shift x [], chain-unsettled x x [] p d b, ap bit (is-free x (b x (inl refl)) e))
+      omega (arith, ap length (copies-shift places x [] e), length-shift x [], chain-unsettled x x [] p d, ap bit (is-free x e))
   chain-cost x [] p d b (inr e) =
-      omega (arith, ap length (cost-settled places x (rw e (no-free x (b x (inl refl))))), chain-unsettled x x [] p d b, ap bit (stays-put x (b x (inl refl)) e))
+      omega (arith, ap length (cost-settled places x (rw e (no-free x b))), chain-unsettled x x [] p d, ap bit (stays-put x e))
   chain-cost x (y ∷ l) p d b (inl e) =
-      let low = b (last y l) (inr (last-in y l)) in
       omega (
         arith,
         ap length (copies-shift places x (y ∷ l) e),
         length-shift x (y ∷ l),
-        chain-unsettled x x (y ∷ l) p d b,
-        ap bit (is-free (last y l) low e),
-        ap bit (ap not (eq-eqb (next places (last y l)) FREE e)),
+        chain-unsettled x x (y ∷ l) p d,
+        ap bit (is-free (last y l) e),
+        ap bit (ap not (eq-eqb (dest places (last y l)) FREE e)),
       )
   chain-cost x (y ∷ l) p d b (inr e) =
-      let low = b (last y l) (inr (last-in y l)) in
-      let q : next places (last y l) ≢ FREE = rw e (no-free x (b x (inl refl))) in
-      let r : next places (last y l) ≢ last y l = λ u. d .0 (rw (sym u ∙ e) at (last-in y l)) in
+      let q : dest places (last y l) ≢ FREE = rw e (no-free x b) in
+      let r : dest places (last y l) ≢ last y l = λ u. d .0 (rw (sym u ∙ e) at (last-in y l)) in
       omega (
         arith,
         ap length (copies-cycle places x (y ∷ l) q),
         length-cycle x y l,
-        chain-unsettled x x (y ∷ l) p d b,
-        ap bit (moves-on (last y l) low q r),
-        ap bit (ap not (ne-eqb (next places (last y l)) FREE q)),
+        chain-unsettled x x (y ∷ l) p d,
+        ap bit (moves-on (last y l) q r),
+        ap bit (ap not (ne-eqb (dest places (last y l)) FREE q)),
       )
 
   all-cost : {j : ℕ} {seen : List ℕ} {rest : List (List ℕ)} → Factored ok j seen rest
@@ -117,7 +115,7 @@ module _ {places : List ℕ} (ok : Chained places) where
       let h : ℕ = head places k in
       let b : h < length places = head-low ok k low in
       let c : length (copies places slots) ≡ matching (unsettled places) slots + bit (turning places slots) =
-      rw e (chain-cost h (onward places h) (onward-path ok h b) (onward-distinct ok h b) (onward-low ok h b) (onward-ends ok h b)) in
+      rw e (chain-cost h (onward places h) (onward-path ok h b) (onward-distinct ok h b) b (onward-ends ok h b)) in
       omega (arith, c, all-cost r, length-append (copies places slots) (join (each (copies places) rest)), matching-append (unsettled places) slots (join rest))
 
   -- the length of the copy list: the cards that are not settled, and the cycles

@@ -11,29 +11,31 @@ use Rattle.counting.specs.Every.{All, Pairwise, In, Distinct}
 use Rattle.counting.specs.Every.All.{more, none}
 use Rattle.counting.specs.Every.Pairwise.{end, link}
 use Rattle.racks.specs.Limits.{FREE}
-use Rattle.factors.specs.Copies.{next, source, onward, back, head, factor, factorsFrom, factors}
+use Rattle.racks.specs.Table.{dest}
+use Rattle.racks.proofs.Table.{dest-has}
+use Rattle.factors.specs.Copies.{source, onward, back, head, factor, factorsFrom, factors}
 use Rattle.factors.specs.parts.Chains.{Chained}
 use Rattle.factors.proofs.Members.{in?, in-among, among-off, in-left, in-right, in-cases, last-in, distinct-append}
 use Rattle.factors.proofs.Walks.{Ends, Path, comes-from, goes-to}
-use Rattle.factors.proofs.Chains.{next-has, source-next, next-source, onward-low, onward-distinct, onward-path, onward-ends, back-path, head-cases, head-low}
+use Rattle.factors.proofs.Chains.{source-dest, dest-source, onward-low, onward-distinct, onward-path, onward-ends, back-path, head-cases, head-low}
 use Rattle.factors.specs.Factors.{Lowest, Before}
 
 module _ {places : List ℕ} (ok : Chained places) where
   -- a chain has where its cards go
-  pub closed-next : (h : ℕ) → h < length places → (g : ℕ) → next places g ≢ FREE → In g (h ∷ onward places h) → In (next places g) (h ∷ onward places h)
-  closed-next h low g q m = go (goes-to (next places) h h g (onward places h) (onward-path ok h low) m) (onward-ends ok h low)
+  pub closed-dest : (h : ℕ) → h < length places → (g : ℕ) → dest places g ≢ FREE → In g (h ∷ onward places h) → In (dest places g) (h ∷ onward places h)
+  closed-dest h low g q m = go (goes-to (dest places) h h g (onward places h) (onward-path ok h low) m) (onward-ends ok h low)
     where
-      go : In (next places g) (onward places h) ⊎ (g ≡ last h (onward places h)) → Ends h (next places (last h (onward places h))) → In (next places g) (h ∷ onward places h)
+      go : In (dest places g) (onward places h) ⊎ (g ≡ last h (onward places h)) → Ends h (dest places (last h (onward places h))) → In (dest places g) (h ∷ onward places h)
       go (inl u) e = inr u
       go (inr u) (inl e) = absurd (q (rw u e))
       go (inr u) (inr e) = inl (rw u e)
 
   -- what has the end of the way back, and where its cards go, has the beginning
-  back-in : (D : ℕ → Type 0) → ((g : ℕ) → next places g ≢ FREE → D g → D (next places g)) → (s x : ℕ) (l : List ℕ) → x ≢ FREE → Path (source places) s x l → D (last x l) → D x
+  back-in : (D : ℕ → Type 0) → ((g : ℕ) → dest places g ≢ FREE → D g → D (dest places g)) → (s x : ℕ) (l : List ℕ) → x ≢ FREE → Path (source places) s x l → D (last x l) → D x
   unfolding last
   back-in D cl s x [] q w m = m
   back-in D cl s x (y ∷ l) q w m =
-      let e : next places y ≡ x = ap (next places) (sym (w .0)) ∙ next-source ok x (rw (w .0) (w .1)) in
+      let e : dest places y ≡ x = ap (dest places) (sym (w .0)) ∙ dest-source ok x (rw (w .0) (w .1)) in
       rw e at (cl y (rw e q) (back-in D cl s y l (w .1) (w .3) m))
 
   module _ (k : ℕ) (low : k < length places) where
@@ -42,28 +44,28 @@ module _ {places : List ℕ} (ok : Chained places) where
     unfolding factor
     self-in = elim (head-cases ok k low) [
       | inl e ↦ inl (sym (e .0))
-      | inr e ↦ back-in (λ x. In x (head places k ∷ onward places (head places k))) (closed-next (head places k) (head-low ok k low)) k k (back places k)
+      | inr e ↦ back-in (λ x. In x (head places k ∷ onward places (head places k))) (closed-dest (head places k) (head-low ok k low)) k k (back places k)
           (omega (arith, ok .small)) (back-path ok k low) (inl (sym (e .0)))
     ]
 
     -- a factor has where its cards go
-    pub factor-next : (g : ℕ) → next places g ≢ FREE → In g (factor places k) → In (next places g) (factor places k)
+    pub factor-dest : (g : ℕ) → dest places g ≢ FREE → In g (factor places k) → In (dest places g) (factor places k)
     unfolding factor
-    factor-next = closed-next (head places k) (head-low ok k low)
+    factor-dest = closed-dest (head places k) (head-low ok k low)
 
     -- and whose cards come
-    pub factor-source : (g : ℕ) → next places g ≢ FREE → In (next places g) (factor places k) → In g (factor places k)
+    pub factor-source : (g : ℕ) → dest places g ≢ FREE → In (dest places g) (factor places k) → In g (factor places k)
     unfolding factor
     factor-source g q (inr m) =
-        let t = comes-from (next places) (head places k) (head places k) (next places g) (onward places (head places k)) (onward-path ok (head places k) (head-low ok k low)) m in
+        let t = comes-from (dest places) (head places k) (head places k) (dest places g) (onward places (head places k)) (onward-path ok (head places k) (head-low ok k low)) m in
         rw (ok .once g (t .0) (sym (t .2)) q) (t .1)
     factor-source g q (inl e) = elim (head-cases ok k low) [
       | inl u ↦
-          let w : next places (last (head places k) (onward places (head places k))) ≡ head places k = rw (u .0) (u .1) in
+          let w : dest places (last (head places k) (onward places (head places k))) ≡ head places k = rw (u .0) (u .1) in
           rw (ok .once g (last (head places k) (onward places (head places k))) (e ∙ sym w) q) (last-in (head places k) (onward places (head places k)))
       | inr u ↦
-          let z : g ≡ FREE = sym (source-next ok g q) ∙ ap (source places) e ∙ u .1 in
-          absurd (omega (arith, next-has places g q, ok .small))
+          let z : g ≡ FREE = sym (source-dest ok g q) ∙ ap (source places) e ∙ u .1 in
+          absurd (omega (arith, dest-has places g q, ok .small))
     ]
 
     -- a factor has slots of the table only
@@ -77,19 +79,19 @@ module _ {places : List ℕ} (ok : Chained places) where
     factor-distinct = onward-distinct ok (head places k) (head-low ok k low)
 
     -- from its first slot on, each slot is where the card of the one before goes
-    pub factor-path : Path (next places) (head places k) (head places k) (onward places (head places k))
+    pub factor-path : Path (dest places) (head places k) (head places k) (onward places (head places k))
     factor-path = onward-path ok (head places k) (head-low ok k low)
 
   -- a set of slots that has whole factors
   abbrev Whole : List ℕ → Type 0
-  Whole seen = (g : ℕ) → next places g ≢ FREE → (In g seen → In (next places g) seen) × (In (next places g) seen → In g seen)
+  Whole seen = (g : ℕ) → dest places g ≢ FREE → (In g seen → In (dest places g) seen) × (In (dest places g) seen → In g seen)
 
-  head-in : (seen : List ℕ) → Whole seen → (s x v : ℕ) (l : List ℕ) → Path (next places) s x l → In v (x ∷ l) → In v seen → In x seen
+  head-in : (seen : List ℕ) → Whole seen → (s x v : ℕ) (l : List ℕ) → Path (dest places) s x l → In v (x ∷ l) → In v seen → In x seen
   head-in seen cl s x v [] w (inl e) m = rw e at m
   head-in seen cl s x v (y ∷ l) w (inl e) m = rw e at m
   head-in seen cl s x v (y ∷ l) w (inr u) m = cl x (rw (w .0) (w .1)) .1 (rw (w .0) (head-in seen cl s y v l (w .3) u m))
 
-  all-in : (seen : List ℕ) → Whole seen → (s x v : ℕ) (l : List ℕ) → Path (next places) s x l → In v (x ∷ l) → In x seen → In v seen
+  all-in : (seen : List ℕ) → Whole seen → (s x v : ℕ) (l : List ℕ) → Path (dest places) s x l → In v (x ∷ l) → In x seen → In v seen
   all-in seen cl s x v [] w (inl e) m = rw e m
   all-in seen cl s x v (y ∷ l) w (inl e) m = rw e m
   all-in seen cl s x v (y ∷ l) w (inr u) m = all-in seen cl s y v l (w .3) u (rw (w .0) at (cl x (rw (w .0) (w .1)) .0 m))
@@ -97,14 +99,14 @@ module _ {places : List ℕ} (ok : Chained places) where
   whole-add : (k : ℕ) → k < length places → (seen : List ℕ) → Whole seen → Whole (factor places k ++ seen)
   whole-add k low seen cl g q = (ahead, behind)
     where
-      ahead : In g (factor places k ++ seen) → In (next places g) (factor places k ++ seen)
+      ahead : In g (factor places k ++ seen) → In (dest places g) (factor places k ++ seen)
       ahead m = elim (in-cases g (factor places k) seen m) [
-        | inl u ↦ in-left (next places g) (factor places k) seen (factor-next k low g q u)
-        | inr u ↦ in-right (next places g) (factor places k) seen (cl g q .0 u)
+        | inl u ↦ in-left (dest places g) (factor places k) seen (factor-dest k low g q u)
+        | inr u ↦ in-right (dest places g) (factor places k) seen (cl g q .0 u)
       ]
 
-      behind : In (next places g) (factor places k ++ seen) → In g (factor places k ++ seen)
-      behind m = elim (in-cases (next places g) (factor places k) seen m) [
+      behind : In (dest places g) (factor places k ++ seen) → In g (factor places k ++ seen)
+      behind m = elim (in-cases (dest places g) (factor places k) seen m) [
         | inl u ↦ in-left g (factor places k) seen (factor-source k low g q u)
         | inr u ↦ in-right g (factor places k) seen (cl g q .1 u)
       ]
@@ -121,7 +123,7 @@ module _ {places : List ℕ} (ok : Chained places) where
   unfolding factor
   same-or-apart j k v lj lk a b w m =
       let h : ℕ = head places j in
-      let cl : Whole (factor places k) = λ g q. (factor-next k lk g q, factor-source k lk g q) in
+      let cl : Whole (factor places k) = λ g q. (factor-dest k lk g q, factor-source k lk g q) in
       all-in (factor places k) cl h h w (onward places h) (factor-path j lj) m (head-in (factor places k) cl h h v (onward places h) (factor-path j lj) a b)
 
   -- from slot k on: each list is the factor of a slot that is in none before, its lowest; at the end every slot is in one

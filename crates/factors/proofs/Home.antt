@@ -11,11 +11,13 @@ use Rattle.counting.specs.Every.{All, In, Distinct}
 use Rattle.counting.proofs.Every.{all-append}
 use Rattle.counting.specs.Every.All.{more, none}
 use Rattle.racks.specs.Limits.{FREE, HAND}
-use Rattle.factors.specs.Copies.{next, onward, head, factor, shift, cycle, copies, copyList}
+use Rattle.racks.specs.Table.{dest}
+use Rattle.racks.proofs.Table.{dest-has}
+use Rattle.factors.specs.Copies.{onward, head, factor, shift, cycle, copies, copyList}
 use Rattle.factors.specs.parts.Chains.{Chained, Proper}
 use Rattle.factors.proofs.Members.{in?, in-left, in-right, in-cases, last-in}
-use Rattle.factors.proofs.Chains.{next-has, onward-low, onward-distinct, onward-path, onward-ends, head-low}
-use Rattle.factors.proofs.Factors.{Factored, factors-are, factor-next}
+use Rattle.factors.proofs.Chains.{onward-low, onward-distinct, onward-path, onward-ends, head-low}
+use Rattle.factors.proofs.Factors.{Factored, factors-are, factor-dest}
 use Rattle.factors.proofs.Factors.Factored.{ended, began}
 use Rattle.factors.proofs.Runs.{run, run-append, shift-keeps, shift-moves, cycle-keeps, cycle-moves}
 use Rattle.factors.proofs.Costs.{copies-shift, copies-cycle}
@@ -47,25 +49,25 @@ module _ {places : List ℕ} (ok : Chained places) where
   module _ (h : ℕ) (low : h < length places) where
     -- the copies of a chain have proper ends
     copies-proper : All (ProperCopy (length places)) (copies places (h ∷ onward places h))
-    copies-proper = elim (ℕ-discrete (next places (last h (onward places h))) FREE) [
+    copies-proper = elim (ℕ-discrete (dest places (last h (onward places h))) FREE) [
       | yes e ↦ rw (copies-shift places h (onward places h) e) (shift-proper (length places) h (onward places h) (onward-distinct ok h low) (onward-low ok h low))
       | no q ↦ rw (copies-cycle places h (onward places h) q) (cycle-proper (length places) (ok .small) h (onward places h) (onward-distinct ok h low) (onward-low ok h low))
     ]
 
     -- they leave what stands outside it and the hand
     copies-keep : {A : Type 0} (z : ℕ) (c : ℕ → A) → ¬ In z (h ∷ onward places h) → z ≢ HAND → run (copies places (h ∷ onward places h)) c z ≡ c z
-    copies-keep z c q u = elim (ℕ-discrete (next places (last h (onward places h))) FREE) [
+    copies-keep z c q u = elim (ℕ-discrete (dest places (last h (onward places h))) FREE) [
       | yes e ↦ rw (copies-shift places h (onward places h) e) (shift-keeps h z (onward places h) c (λ m. q (inr m)))
       | no n ↦ rw (copies-cycle places h (onward places h) n) (cycle-keeps h z (onward places h) c q u)
     ]
 
     -- and bring each of its cards where it goes
-    copies-move : {A : Type 0} (g : ℕ) (c : ℕ → A) → next places g ≢ FREE → In g (h ∷ onward places h) → run (copies places (h ∷ onward places h)) c (next places g) ≡ c g
-    copies-move {A} g c q m = elim (ℕ-discrete (next places (last h (onward places h))) FREE) [
+    copies-move : {A : Type 0} (g : ℕ) (c : ℕ → A) → dest places g ≢ FREE → In g (h ∷ onward places h) → run (copies places (h ∷ onward places h)) c (dest places g) ≡ c g
+    copies-move {A} g c q m = elim (ℕ-discrete (dest places (last h (onward places h))) FREE) [
       | yes e ↦ rw (copies-shift places h (onward places h) e)
-          (elim (shift-moves {A = A} (next places) h h g (onward places h) (onward-path ok h low) (onward-distinct ok h low) m) [ inl t ↦ t .1 c | inr u ↦ absurd (q (rw u e)) ])
+          (elim (shift-moves {A = A} (dest places) h h g (onward places h) (onward-path ok h low) (onward-distinct ok h low) m) [ inl t ↦ t .1 c | inr u ↦ absurd (q (rw u e)) ])
       | no n ↦ rw (copies-cycle places h (onward places h) n)
-          (cycle-moves (next places) h g (onward places h) c (onward-path ok h low) (onward-distinct ok h low)
+          (cycle-moves (dest places) h g (onward places h) c (onward-path ok h low) (onward-distinct ok h low)
           (λ u. absurd (omega (arith, onward-low ok h low HAND u, ok .small))) (elim (onward-ends ok h low) [ inl e ↦ absurd (n e) | inr e ↦ e ]) m)
     ]
 
@@ -93,20 +95,20 @@ module _ {places : List ℕ} (ok : Chained places) where
         ∙ rw e (copies-keep (head places k) (head-low ok k b) x c (λ i. a x (rw e i) m) q))
 
     -- and bring every other card where it goes
-    comes : {j : ℕ} {seen : List ℕ} {rest : List (List ℕ)} → Factored ok j seen rest → (c : ℕ → A) (g : ℕ) → next places g ≢ FREE → ¬ In g seen
-        → run (join (each (copies places) rest)) c (next places g) ≡ c g
+    comes : {j : ℕ} {seen : List ℕ} {rest : List (List ℕ)} → Factored ok j seen rest → (c : ℕ → A) (g : ℕ) → dest places g ≢ FREE → ¬ In g seen
+        → run (join (each (copies places) rest)) c (dest places g) ≡ c g
     unfolding join each run factor
-    comes (ended h) c g f m = absurd (m (h g (next-has places g f)))
+    comes (ended h) c g f m = absurd (m (h g (dest-has places g f)))
     comes (began {k = k} {seen} {slots} {rest} _ b e _ a r) c g f m = rw run-append (elim (in? g slots) [
       | yes i ↦
-          stays r (run (copies places slots) c) (next places g) (in-left (next places g) slots seen (rw e (factor-next ok k b g f (rw e at i)))) (not-hand (next places g) (ok .below g f))
+          stays r (run (copies places slots) c) (dest places g) (in-left (dest places g) slots seen (rw e (factor-dest ok k b g f (rw e at i)))) (not-hand (dest places g) (ok .below g f))
           ∙ rw e (copies-move (head places k) (head-low ok k b) g c f (rw e at i))
       | no i ↦
           comes r (run (copies places slots) c) g f (λ u. elim (in-cases g slots seen u) [ inl v ↦ i v | inr v ↦ m v ])
-          ∙ rw e (copies-keep (head places k) (head-low ok k b) g c (λ u. i (rw e u)) (not-hand g (next-has places g f)))
+          ∙ rw e (copies-keep (head places k) (head-low ok k b) g c (λ u. i (rw e u)) (not-hand g (dest-has places g f)))
     ])
 
     -- running the copy list brings every card where it goes
-    pub brings-home : (c : ℕ → A) (g : ℕ) → next places g ≢ FREE → run (copyList places) c (next places g) ≡ c g
+    pub brings-home : (c : ℕ → A) (g : ℕ) → dest places g ≢ FREE → run (copyList places) c (dest places g) ≡ c g
     unfolding copyList
     brings-home c g f = comes (factors-are ok) c g f (λ m. m)

@@ -16,29 +16,28 @@ use Rattle.racks.specs.Table.{dest, free, rackTo, away}
 use Rattle.racks.specs.Numbers.{someAway}
 use Rattle.racks.specs.parts.Legal.{Legal}
 use Rattle.racks.proofs.Away.{away-is}
-use Rattle.factors.specs.Copies.{next, onward, head, factor}
+use Rattle.racks.proofs.Table.{dest-has}
+use Rattle.factors.specs.Copies.{onward, head, factor}
 use Rattle.counting.specs.Every.{In}
 use Rattle.factors.proofs.Walks.{Path}
-use Rattle.factors.proofs.Chains.{chained, next-is, next-has}
+use Rattle.factors.proofs.Chains.{chained}
 use Rattle.factors.proofs.Factors.{self-in, factor-path}
 
 module _ {racks : List Rack} {places : List ℕ} (v : Legal racks places) (few : slots racks ≤ 4096) (home : someAway racks places ≡ false) where
   -- no card leaves its rack
-  next-rack : (g : ℕ) → next places g ≢ FREE → rackOf racks (next places g) ≡ rackOf racks g
+  dest-rack : (g : ℕ) → dest places g ≢ FREE → rackOf racks (dest places g) ≡ rackOf racks g
   unfolding someAway free rackTo
-  next-rack g q =
-      let l = next-has places g q in
-      let e = next-is places g l in
-      let m : g < slots racks = omega (arith, v .long) in
+  dest-rack g q =
+      let m : g < slots racks = omega (arith, dest-has places g q, v .long) in
       elim (ℕ-discrete (rackOf racks g) (rackOf racks (dest places g))) [
-        | yes i ↦ ap (rackOf racks) e ∙ sym i
-        | no i ↦ absurd (no-way (away-is racks places g (ne-eqb (dest places g) FREE (λ u. q (e ∙ u))) i) (some-off (slots racks) (away racks places) home g m))
+        | yes i ↦ sym i
+        | no i ↦ absurd (no-way (away-is racks places g (ne-eqb (dest places g) FREE q) i) (some-off (slots racks) (away racks places) home g m))
       ]
 
-  path-rack : (s x w : ℕ) (l : List ℕ) → Path (next places) s x l → In w (x ∷ l) → rackOf racks w ≡ rackOf racks x
+  path-rack : (s x w : ℕ) (l : List ℕ) → Path (dest places) s x l → In w (x ∷ l) → rackOf racks w ≡ rackOf racks x
   path-rack s x w [] p (inl e) = ap (rackOf racks) e
   path-rack s x w (y ∷ l) p (inl e) = ap (rackOf racks) e
-  path-rack s x w (y ∷ l) p (inr m) = path-rack s y w l (p .3) m ∙ ap (rackOf racks) (sym (p .0)) ∙ next-rack x (rw (p .0) (p .1))
+  path-rack s x w (y ∷ l) p (inr m) = path-rack s y w l (p .3) m ∙ ap (rackOf racks) (sym (p .0)) ∙ dest-rack x (rw (p .0) (p .1))
 
   -- all slots of a slot's factor are on its rack
   pub one-rack : (k w : ℕ) → k < slots racks → In w (factor places k) → rackOf racks w ≡ rackOf racks k

@@ -12,12 +12,13 @@ use borrow.Author.Tests.{eq-eqb, ne-eqb}
 use Rattle.counting.specs.Count.{seek}
 use Rattle.racks.specs.Limits.{FREE}
 use Rattle.racks.specs.Table.{dest, names}
-use Rattle.factors.specs.Copies.{next, source, onward, back}
+use Rattle.racks.proofs.Table.{read-dest, dest-has}
+use Rattle.factors.specs.Copies.{source, onward, back}
 use Rattle.factors.specs.parts.Chains.{Chained}
 use Rattle.tables.specs.parts.Tables.{namedSlot}
 use Rattle.factors.specs.parts.Walks.{NoSources, Sources, putSource}
 use Rattle.factors.proofs.Walks.{after-same}
-use Rattle.factors.proofs.Chains.{next-is, next-has, next-source, source-low}
+use Rattle.factors.proofs.Chains.{dest-source, source-low}
 
 -- the sources among the first g slots are in the table
 pub record SourcesTo (places : List ℕ) (g : ℕ) (noted : List ℕ) : Type 0 where
@@ -104,36 +105,36 @@ module _ {places noted : List ℕ} (ok : Chained places) (s : Sources places not
   pub length-inverse : length inverse ≡ length places
   length-inverse = length-take-le (length places) noted (omega (arith, ok .small, s .long))
 
-  inverse-next : (x : ℕ) → x < length places → next inverse x ≡ source places x
-  inverse-next x l = next-is inverse x (omega (arith, length-inverse)) ∙ getD-take (length places) noted x 0 l ∙ s .sources x l
+  inverse-dest : (x : ℕ) → x < length places → dest inverse x ≡ source places x
+  inverse-dest x l = sym (read-dest inverse x (omega (arith, length-inverse))) ∙ getD-take (length places) noted x 0 l ∙ s .sources x l
 
-  inverse-has : (x : ℕ) → next inverse x ≢ FREE → next inverse x ≡ source places x
-  inverse-has x q = inverse-next x (omega (arith, next-has inverse x q, length-inverse))
+  inverse-has : (x : ℕ) → dest inverse x ≢ FREE → dest inverse x ≡ source places x
+  inverse-has x q = inverse-dest x (omega (arith, dest-has inverse x q, length-inverse))
 
-  undone : (x : ℕ) → next inverse x ≢ FREE → next places (next inverse x) ≡ x
-  undone x q = let e = inverse-has x q in rw e (next-source ok x (λ u. q (e ∙ u)))
+  undone : (x : ℕ) → dest inverse x ≢ FREE → dest places (dest inverse x) ≡ x
+  undone x q = let e = inverse-has x q in rw e (dest-source ok x (λ u. q (e ∙ u)))
 
   -- its entries are slots, no two the same
   pub inverse-chained : Chained inverse
   inverse-chained = record {
     small = omega (arith, length-inverse, ok .small);
     below = λ x q. let e = inverse-has x q in omega (arith, e, source-low ok x (λ u. q (e ∙ u)), length-inverse);
-    once = λ x y e q. sym (undone x q) ∙ ap (next places) e ∙ undone y (λ u. q (e ∙ u));
+    once = λ x y e q. sym (undone x q) ∙ ap (dest places) e ∙ undone y (λ u. q (e ∙ u));
   }
 
   -- the way on by it is the way back
   pub inverse-onward : (k : ℕ) → k < length places → onward inverse k ≡ back places k
   unfolding onward back
-  inverse-onward k l = rw length-inverse (after-same (next inverse) (source places) k (length places) inverse-next (source-low ok) (length places) k l)
+  inverse-onward k l = rw length-inverse (after-same (dest inverse) (source places) k (length places) inverse-dest (source-low ok) (length places) k l)
 
--- a card's destination is a slot of the table
-pub entry-low : {places : List ℕ} → Chained places → (g : ℕ) → g < length places → dest places g ≢ FREE → dest places g < length places
-entry-low {places} ok g l q = let e = next-is places g l in rw e at (ok .below g (rw e q))
+-- a card's destination, as the code reads it, is a slot of the table
+pub entry-low : {places : List ℕ} → Chained places → (g : ℕ) → g < length places → getD places g 0 ≢ FREE → getD places g 0 < length places
+entry-low {places} ok g l q = let e = read-dest places g l in rw e (ok .below g (rw e at q))
 
 -- so the slot that an entry names is one, and a free slot itself
 pub named-low : {places : List ℕ} → Chained places → (g : ℕ) → g < length places → namedSlot g (dest places g) < length places
 unfolding namedSlot
 named-low {places} ok g l = elim (ℕ-discrete (dest places g) FREE) [
   | yes e ↦ rw (eq-eqb (dest places g) FREE e) l
-  | no q ↦ rw (ne-eqb (dest places g) FREE q) (entry-low ok g l q)
+  | no q ↦ rw (ne-eqb (dest places g) FREE q) (ok .below g q)
 ]

@@ -6,7 +6,8 @@ use native.Mathlib.Omega.{arith}
 use native.Mathlib.Nat.{suc-sub-suc}
 use lib.ListN.{getD}
 use Rattle.counting.specs.Lists.{Pair}
-use Rattle.factors.specs.Copies.{next, shift}
+use Rattle.racks.specs.Table.{dest}
+use Rattle.factors.specs.Copies.{shift}
 use Rattle.factors.specs.parts.Walks.{steps, stepped, Inside}
 use Rattle.factors.proofs.Walked.{inside-here, inside-step, inside-next}
 
@@ -15,14 +16,14 @@ pub inside-near : (places : List ℕ) (n k x : ℕ) → Inside places n x → k 
 unfolding Inside
 inside-near places n zero x h l = inside-here places n x h
 inside-near places zero (suc k) x h l = absurd (omega arith)
-inside-near places (suc n) (suc k) x h l = (h .0, inside-near places n k (next places x) (h .1) (omega arith))
+inside-near places (suc n) (suc k) x h l = (h .0, inside-near places n k (dest places x) (h .1) (omega arith))
 
 -- those that follow the slot m steps on
-pub inside-far : (places : List ℕ) (n m k x y : ℕ) → y ≡ stepped (next places) m x → Inside places n x → m + k ≤ n → Inside places k y
+pub inside-far : (places : List ℕ) (n m k x y : ℕ) → y ≡ stepped (dest places) m x → Inside places n x → m + k ≤ n → Inside places k y
 unfolding Inside stepped
 inside-far places n zero k x y e h l = rw e (inside-near places n k x h (omega arith))
 inside-far places zero (suc m) k x y e h l = absurd (omega arith)
-inside-far places (suc n) (suc m) k x y e h l = inside-far places n m k (next places x) y e (h .1) (omega arith)
+inside-far places (suc n) (suc m) k x y e h l = inside-far places n m k (dest places x) y e (h .1) (omega arith)
 
 -- the copies of the far part, and then those of the stretch
 pub shift-cut : (f : ℕ → ℕ) (n m x y : ℕ) → m ≤ n → y ≡ stepped f m x → shift x (steps f n x) ≡ shift y (steps f (n - m) y) ++ shift x (steps f m x)
@@ -35,7 +36,7 @@ shift-cut f (suc n) (suc m) x y l e =
 -- k of n steps are made, to y
 pub record Stepping (places : List ℕ) (n x k y : ℕ) : Type 0 where
   pub ahead : Inside places (n - k) y
-  pub ends : stepped (next places) (n - k) y ≡ stepped (next places) n x
+  pub ends : stepped (dest places) (n - k) y ≡ stepped (dest places) n x
 
 module _ (places : List ℕ) (n x : ℕ) where
   -- none is
@@ -44,7 +45,7 @@ module _ (places : List ℕ) (n x : ℕ) where
 
   module _ (k y : ℕ) (s : Stepping places n x k y) where
     -- all are
-    pub stepping-end : n ≤ k → y ≡ stepped (next places) n x
+    pub stepping-end : n ≤ k → y ≡ stepped (dest places) n x
     unfolding stepped
     stepping-end l = let z : n - k ≡ 0 = omega arith in rw z at (s .ends)
 

@@ -14,12 +14,14 @@ use Rattle.counting.specs.Lists.{among, last}
 use Rattle.counting.proofs.Members.{among-append}
 use Rattle.counting.proofs.Tests.{by-test}
 use Rattle.racks.specs.Limits.{FREE, HAND}
-use Rattle.factors.specs.Copies.{next, source, onward, back, head, factor, shift, cycle, copies}
+use Rattle.racks.specs.Table.{dest}
+use Rattle.racks.proofs.Table.{read-dest}
+use Rattle.factors.specs.Copies.{source, onward, back, head, factor, shift, cycle, copies}
 use Rattle.factors.specs.parts.Chains.{Chained}
 use Rattle.factors.specs.parts.Walks.{steps, Inside, walked, walkCount, handEnd, Marked, MarkedOn, MarkedBack, Walked}
 use Rattle.counting.specs.Every.{In}
 use Rattle.factors.proofs.Walks.{Path, after-stop}
-use Rattle.factors.proofs.Chains.{next-is, onward-low, onward-path, onward-end, on-cycle, head-cases, head-low, cycle-source, cycle-ends, shift-ends, source-low}
+use Rattle.factors.proofs.Chains.{onward-low, onward-path, onward-end, on-cycle, head-cases, head-low, cycle-source, cycle-ends, shift-ends, source-low}
 use Rattle.factors.proofs.Walking.{mark-more}
 use Rattle.factors.proofs.Behind.{behind-count, behind-among}
 use Rattle.factors.proofs.Costs.{length-shift, copies-shift, copies-cycle}
@@ -41,9 +43,9 @@ unfolding Inside
 inside-here places zero x h = h
 inside-here places (suc n) x h = h .0
 
--- the entry there is the next slot
-pub inside-step : (places : List ℕ) (n x y : ℕ) → Inside places n x → y ≡ getD places x 0 → y ≡ next places x
-inside-step places n x y h e = e ∙ sym (next-is places x (inside-here places n x h))
+-- the entry there is the slot that follows
+pub inside-step : (places : List ℕ) (n x y : ℕ) → Inside places n x → y ≡ getD places x 0 → y ≡ dest places x
+inside-step places n x y h e = e ∙ read-dest places x (inside-here places n x h)
 
 -- what follows it, from the next slot on
 pub inside-next : (places : List ℕ) (n x y : ℕ) → Inside places n x → y ≡ getD places x 0 → n ≢ 0 → Inside places (n - 1) y
@@ -51,7 +53,7 @@ unfolding Inside
 inside-next places zero x y h e q = absurd (q refl)
 inside-next places (suc n) x y h e q = let i : suc n - 1 ≡ n = omega arith in rw (i, inside-step places (suc n) x y h e) (h .1)
 
-inside-path : (places : List ℕ) (s x : ℕ) (l : List ℕ) → Path (next places) s x l → ((v : ℕ) → In v (x ∷ l) → v < length places) → Inside places (length l) x
+inside-path : (places : List ℕ) (s x : ℕ) (l : List ℕ) → Path (dest places) s x l → ((v : ℕ) → In v (x ∷ l) → v < length places) → Inside places (length l) x
 unfolding Inside
 inside-path places s x [] w b = b x (inl refl)
 inside-path places s x (y ∷ l) w b = (b x (inl refl), rw (w .0) (inside-path places s y l (w .3) (λ v m. b v (inr m))))
@@ -74,12 +76,12 @@ count-hand n end q = rw (ne-eqb end FREE q)
 -- the copies of a factor, as they are walked
 module _ (places : List ℕ) (h n end : ℕ) where
   -- no card goes to the hand: a shift
-  pub walked-shift : end ≡ FREE → walked places h n end ≡ shift h (steps (next places) n h)
+  pub walked-shift : end ≡ FREE → walked places h n end ≡ shift h (steps (dest places) n h)
   unfolding walked
   walked-shift e = rw (eq-eqb end FREE e)
 
   -- one does: by the hand
-  pub walked-hand : end ≢ FREE → walked places h n end ≡ (end, HAND) ∷ shift h (steps (next places) n h) ++ (HAND, h) ∷ []
+  pub walked-hand : end ≢ FREE → walked places h n end ≡ (end, HAND) ∷ shift h (steps (dest places) n h) ++ (HAND, h) ∷ []
   unfolding walked
   walked-hand q = rw (ne-eqb end FREE q)
 
@@ -91,11 +93,11 @@ module _ (places : List ℕ) (h n end : ℕ) where
     | no q ↦ ap length (walked-hand q) ∙ by-hand ∙ rw (ne-eqb end FREE q)
   ]
     where
-      length-chain : (x : ℕ) → length (shift x (steps (next places) n x)) ≡ n
-      length-chain x = length-shift x (steps (next places) n x) ∙ length-steps (next places) n x
+      length-chain : (x : ℕ) → length (shift x (steps (dest places) n x)) ≡ n
+      length-chain x = length-shift x (steps (dest places) n x) ∙ length-steps (dest places) n x
 
-      by-hand : length ((end, HAND) ∷ shift h (steps (next places) n h) ++ (HAND, h) ∷ []) ≡ n + 2
-      by-hand = omega (arith, length-append (shift h (steps (next places) n h)) ((HAND, h) ∷ []), length-chain h)
+      by-hand : length ((end, HAND) ∷ shift h (steps (dest places) n h) ++ (HAND, h) ∷ []) ≡ n + 2
+      by-hand = omega (arith, length-append (shift h (steps (dest places) n h)) ((HAND, h) ∷ []), length-chain h)
 
 -- the factor of slot k, from its first slot h, which s's card comes to; n slots follow
 module _ {places : List ℕ} (ok : Chained places) (k : ℕ) (low : k < length places) (h n s : ℕ) (is : h ≡ head places k) (size : n ≡ length (onward places h)) (from : s ≡ source places h) where
@@ -106,14 +108,14 @@ module _ {places : List ℕ} (ok : Chained places) (k : ℕ) (low : k < length p
   pub walk-inside : Inside places n h
   walk-inside = rw size (inside-path places h h (onward places h) (onward-path ok h here) (onward-low ok h here))
 
-  steps-onward : steps (next places) n h ≡ onward places h
-  steps-onward = rw size (steps-path (next places) h h (onward places h) (onward-path ok h here))
+  steps-onward : steps (dest places) n h ≡ onward places h
+  steps-onward = rw size (steps-path (dest places) h h (onward places h) (onward-path ok h here))
 
   factor-is : factor places k ≡ h ∷ onward places h
   unfolding factor
   factor-is = rw is
 
-  turns : source places h ≢ FREE → next places (last h (onward places h)) ≡ h
+  turns : source places h ≢ FREE → dest places (last h (onward places h)) ≡ h
   turns q = rw (← is) at (cycle-ends ok k low (λ e. q (ap (source places) is ∙ e)))
 
   -- a card comes to h: the factor is a cycle, and that card its last
@@ -127,7 +129,7 @@ module _ {places : List ℕ} (ok : Chained places) (k : ℕ) (low : k < length p
 
   none-left : n ≡ 0 → onward places h ≡ []
   unfolding steps
-  none-left z = sym steps-onward ∙ ap (λ (m : ℕ). steps (next places) m h) z
+  none-left z = sym steps-onward ∙ ap (λ (m : ℕ). steps (dest places) m h) z
 
   -- its copies
   pub walk-copies : copies places (factor places k) ≡ walked places h n (handEnd s n)
@@ -201,7 +203,7 @@ module _ {places : List ℕ} (ok : Chained places) (mark k : ℕ) (low : k < len
     unfolding handEnd
     no-hand s c f = elim (ℕ-discrete c 0) [ yes z ↦ rw (eq-eqb c 0 z) | no z ↦ rw (ne-eqb c 0 z) (f z) ]
 
-    along : next places (last k (onward places k)) ≡ FREE → Walked places mark k seen h (m + n) FREE s₂
+    along : dest places (last k (onward places k)) ≡ FREE → Walked places mark k seen h (m + n) FREE s₂
     along e = elim (head-cases ok k low) [
       | inl u ↦ absurd (omega (arith, sym e ∙ u .1, ok .small))
       | inr u ↦
@@ -216,11 +218,11 @@ module _ {places : List ℕ} (ok : Chained places) (mark k : ℕ) (low : k < len
           ∙ ap (λ (x : ℕ). among v (x ∷ onward places x)) (sym (bk .head-is)))
     ]
 
-    alone : next places (last k (onward places k)) ≡ k → n ≡ 0 → Walked places mark k seen h (m + n) FREE s₂
+    alone : dest places (last k (onward places k)) ≡ k → n ≡ 0 → Walked places mark k seen h (m + n) FREE s₂
     unfolding back last
     alone e z =
         let c : onward places k ≡ [] = nothing (onward places k) (sym (on .left-is) ∙ z) in
-        let t : next places k ≡ k = rw c at e in
+        let t : dest places k ≡ k = rw c at e in
         let b : back places k ≡ [] = after-stop (source places) k (length places) k (inr (cycle-source ok k low e ∙ ap (last k) c)) in
         let i : h ≡ k = bk .head-is ∙ ap (last k) b in
         let w : m ≡ 0 = bk .left-is ∙ ap length b in

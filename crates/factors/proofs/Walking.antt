@@ -13,11 +13,13 @@ use Rattle.counting.specs.Lists.{among, last}
 use Rattle.counting.proofs.Members.{among-append}
 use Rattle.counting.proofs.Tests.{by-test, pick-same}
 use Rattle.racks.specs.Limits.{FREE}
-use Rattle.factors.specs.Copies.{next, following, onward}
+use Rattle.racks.specs.Table.{dest}
+use Rattle.racks.proofs.Table.{read-dest}
+use Rattle.factors.specs.Copies.{following, onward}
 use Rattle.factors.specs.parts.Chains.{Chained}
 use Rattle.factors.specs.parts.Walks.{Sources, Marked, Passed, MarkedOn, MarkedBack, handEnd}
 use Rattle.factors.proofs.Walks.{Ends, after-stop, after-go}
-use Rattle.factors.proofs.Chains.{next-is, onward-ends, onward-short}
+use Rattle.factors.proofs.Chains.{onward-ends, onward-short}
 use Rattle.factors.proofs.Sourced.{inverse-onward}
 
 last-snoc : (x y : ℕ) (l : List ℕ) → last x (l ++ y ∷ []) ≡ y
@@ -87,7 +89,7 @@ module _ (mark : ℕ) where
 
 -- a walk by a table from slot h, as the code marks the slots behind h
 pub record Marking (table : List ℕ) (mark h n x : ℕ) (before after : List ℕ) : Type 0 where
-  pub walking : Walking (next table) h (length table) n x
+  pub walking : Walking (dest table) h (length table) n x
   pub marked : Marked mark (walking .past) before after
   pub here : x < length table
 
@@ -95,17 +97,17 @@ module _ {table : List ℕ} (ok : Chained table) (mark h : ℕ) (low : h < lengt
   -- at first none is
   pub marking-begin : Marking table mark h 0 h before before
   unfolding walk-begin
-  marking-begin = record { walking = walk-begin (next table) h (length table); marked = mark-none mark before; here = low }
+  marking-begin = record { walking = walk-begin (dest table) h (length table); marked = mark-none mark before; here = low }
 
   module _ (n x : ℕ) (seen : List ℕ) (m : Marking table mark h n x before seen) where
     -- a slot more is marked
     pub marking-more : (y : ℕ) → n < length table → y ≡ getD table x 0 → y ≢ FREE → y ≢ h → length before ≡ 4096 → Marking table mark h (n + 1) y before (set seen y mark)
     unfolding walk-more
     marking-more y l e p q long =
-        let i : y ≡ next table x = e ∙ sym (next-is table x (m .here)) in
+        let i : y ≡ dest table x = e ∙ read-dest table x (m .here) in
         let b : y < length table = rw i (ok .below x (λ u. p (i ∙ u))) in
         record {
-          walking = walk-more (next table) h (length table) n x y (m .walking) l i p q;
+          walking = walk-more (dest table) h (length table) n x y (m .walking) l i p q;
           marked = mark-more mark (m .walking .past) (y ∷ []) before seen (set seen y mark) (m .marked) (mark-one mark seen y (omega (arith, m .marked .long, ok .small)));
           here = b;
         }
@@ -114,15 +116,15 @@ module _ {table : List ℕ} (ok : Chained table) (mark h : ℕ) (low : h < lengt
     pub marking-stop : Ends h (getD table x 0) → Passed table mark h before x n (getD table x 0) seen
     unfolding onward
     marking-stop e =
-        let i = next-is table x (m .here) in
-        let w : m .walking .past ≡ onward table h = sym (walk-stop (next table) h (length table) n x (m .walking) (rw i e)) in
+        let i = read-dest table x (m .here) in
+        let w : m .walking .past ≡ onward table h = sym (walk-stop (dest table) h (length table) n x (m .walking) (rw i at e)) in
         let j : x ≡ last h (onward table h) = m .walking .here ∙ ap (last h) w in
-        record { head-is = j; left-is = sym (m .walking .count) ∙ ap length w; end-is = sym i ∙ ap (next table) j; marked = rw w at (m .marked) }
+        record { head-is = j; left-is = sym (m .walking .count) ∙ ap length w; end-is = i ∙ ap (dest table) j; marked = rw w at (m .marked) }
 
     -- as many steps as there are slots are never made
     pub marking-never : length table ≤ n → ⊥
     unfolding onward
-    marking-never l = omega (arith, ap length (walk-out (next table) h (length table) n x (m .walking) l) ∙ m .walking .count, onward-short ok h low)
+    marking-never l = omega (arith, ap length (walk-out (dest table) h (length table) n x (m .walking) l) ∙ m .walking .count, onward-short ok h low)
 
 -- the way on from h: h is marked first
 module _ {places : List ℕ} (ok : Chained places) (mark h : ℕ) (low : h < length places) (start seen : List ℕ) (long : length start ≡ 4096) (head left end : ℕ) (p : Passed places mark h (set start h mark) head left end seen) where

@@ -7,8 +7,7 @@ use Rattle.counting.specs.Tests.{_and_}
 use Rattle.counting.specs.Lists.{last}
 use Rattle.counting.specs.Every.{In}
 use Rattle.racks.specs.Limits.{FREE}
-use Rattle.racks.specs.Table.{free, settled}
-use Rattle.factors.specs.Copies.{next}
+use Rattle.racks.specs.Table.{dest, free, settled}
 
 -- k is the lowest slot of a factor
 pub record Lowest (k : ℕ) (slots : List ℕ) : Type 0 where
@@ -27,4 +26,4 @@ unsettled places g = not (free places g) and not (settled places g)
 unfoldable pub turning : List ℕ → List ℕ → Bool
 turning places [] = false
 turning places (x ∷ []) = false
-turning places (x ∷ y ∷ l) = not (eqb (next places (last y l)) FREE)
+turning places (x ∷ y ∷ l) = not (eqb (dest places (last y l)) FREE)

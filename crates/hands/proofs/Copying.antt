@@ -7,11 +7,12 @@ use native.Mathlib.Omega.{arith}
 use lib.ListN.{length, getD, take, replicate}
 use Rattle.counting.specs.Lists.{Pair}
 use Rattle.racks.specs.Limits.{FREE, HAND}
+use Rattle.racks.specs.Table.{dest}
 use Rattle.answers.specs.Answers.{plusCopy, plusCopies}
 use Rattle.answers.specs.declared.Tally.{Tally}
 use Rattle.moves.specs.Blocks.{block, putBlock, blank}
 use Rattle.moves.proofs.Blocks.{length-put, within}
-use Rattle.factors.specs.Copies.{next, shift, copies, copyList}
+use Rattle.factors.specs.Copies.{shift, copies, copyList}
 use Rattle.factors.specs.parts.Chains.{Chained}
 use Rattle.factors.specs.parts.Walks.{COUNTED, steps, stepped, Inside, Unmarked, Walked}
 use Rattle.copies.specs.parts.Writes.{due}
@@ -82,29 +83,28 @@ unfolding shift steps slid
 slid-none b n x f cards e = rw e
 
 -- those of the slots after x, and then x's
-pub slid-more : (b n x y : ℕ) (places cards l m : List ℕ) → Inside places n x → y ≡ getD places x 0 → n ≢ 0 → l ≡ slid b (shift y (steps (next places) (n - 1) y)) cards → m ≡ putBlock b y (block b x l) l
-    → m ≡ slid b (shift x (steps (next places) n x)) cards
+pub slid-more : (b n x y : ℕ) (places cards l m : List ℕ) → Inside places n x → y ≡ getD places x 0 → n ≢ 0 → l ≡ slid b (shift y (steps (dest places) (n - 1) y)) cards → m ≡ putBlock b y (block b x l) l
+    → m ≡ slid b (shift x (steps (dest places) n x)) cards
 unfolding shift steps slid
 slid-more b zero x y places cards l m h e q p r = absurd (q refl)
 slid-more b (suc n) x y places cards l m h e q p r =
     let z : suc n - 1 ≡ n = omega arith in
-    r ∙ rw (p, z, ← inside-step places (suc n) x y h e) (sym (slid-append b (shift y (steps (next places) n y)) ((x, y) ∷ []) cards))
+    r ∙ rw (p, z, ← inside-step places (suc n) x y h e) (sym (slid-append b (shift y (steps (dest places) n y)) ((x, y) ∷ []) cards))
 
 -- those of the far part of a chain, and then those of the stretch before it
-pub slid-cut : (b n s x y : ℕ) (places cards l m : List ℕ) → s ≤ n → y ≡ stepped (next places) s x → l ≡ slid b (shift y (steps (next places) (n - s) y)) cards → m ≡ slid b (shift x (steps (next places) s x)) l
-    → m ≡ slid b (shift x (steps (next places) n x)) cards
-slid-cut b n s x y places cards l m h e p r =
-    let f : ℕ → ℕ = next places in
+pub slid-cut : (f : ℕ → ℕ) (b n s x y : ℕ) (cards l m : List ℕ) → s ≤ n → y ≡ stepped f s x → l ≡ slid b (shift y (steps f (n - s) y)) cards → m ≡ slid b (shift x (steps f s x)) l
+    → m ≡ slid b (shift x (steps f n x)) cards
+slid-cut f b n s x y cards l m h e p r =
     r ∙ rw (p, shift-cut f n s x y h e) (sym (slid-append b (shift y (steps f (n - s) y)) (shift x (steps f s x)) cards))
 
 -- a chain of slots is run without the hand
 pub run-chain : (b : ℕ) (places cards hand : List ℕ) (n x : ℕ) → Inside places n x → length places ≤ 4096
-    → runCopies b (shift x (steps (next places) n x)) (handed b cards hand) ≡ handed b (slid b (shift x (steps (next places) n x)) cards) hand
+    → runCopies b (shift x (steps (dest places) n x)) (handed b cards hand) ≡ handed b (slid b (shift x (steps (dest places) n x)) cards) hand
 unfolding shift steps copyMade runCopies slid Inside
 run-chain b places cards hand zero x w l = refl
 run-chain b places cards hand (suc n) x w l =
-    let y : ℕ = next places x in
-    let cs : List Pair = shift y (steps (next places) n y) in
+    let y : ℕ = dest places x in
+    let cs : List Pair = shift y (steps (dest places) n y) in
     let low : y < length places = inside-here places n y (w .1) in
     let i = run-chain b places cards hand n y (w .1) l in
     rw (run-snoc b cs (x, y), i, slid-append b cs ((x, y) ∷ []) cards)
@@ -113,20 +113,20 @@ run-chain b places cards hand (suc n) x w l =
 -- a factor's cards
 module _ (b : ℕ) (places : List ℕ) (h n end : ℕ) (inside : Inside places n h) (few : length places ≤ 4096) (cards hand : List ℕ) (long : length hand ≡ 256) where
   -- along a shift
-  pub brought-shift : end ≡ FREE → (tally r : Tally) (cards′ : List ℕ) → r ≡ plusCopies n tally → cards′ ≡ slid b (shift h (steps (next places) n h)) cards → WalkBrought b places h n end cards hand tally r cards′ hand
+  pub brought-shift : end ≡ FREE → (tally r : Tally) (cards′ : List ℕ) → r ≡ plusCopies n tally → cards′ ≡ slid b (shift h (steps (dest places) n h)) cards → WalkBrought b places h n end cards hand tally r cards′ hand
   brought-shift e tally r cards′ i p = record {
     count-is = plus-shift tally n end e r i;
     brings = record { is = ap (λ (l : List ℕ). handed b l hand) p ∙ sym (run-chain b places cards hand n h inside few) ∙ ap (λ (cs : List Pair). runCopies b cs (handed b cards hand)) (sym (walked-shift places h n end e)); long = long };
-    size = slid-size b (shift h (steps (next places) n h)) cards cards′ p;
+    size = slid-size b (shift h (steps (dest places) n h)) cards cards′ p;
   }
 
   -- by the hand
   pub brought-hand : end ≢ FREE → end < length places → (tally held shifted r : Tally) (from : ℕ) (hand₁ cards₂ cards₃ : List ℕ) → held ≡ plusCopy tally → shifted ≡ plusCopies n held → r ≡ plusCopy shifted → from ≡ end
-      → take b hand₁ ≡ block b from cards → length hand₁ ≡ 256 → cards₂ ≡ slid b (shift h (steps (next places) n h)) cards → cards₃ ≡ putBlock b h (take b hand₁) cards₂
+      → take b hand₁ ≡ block b from cards → length hand₁ ≡ 256 → cards₂ ≡ slid b (shift h (steps (dest places) n h)) cards → cards₃ ≡ putBlock b h (take b hand₁) cards₂
       → WalkBrought b places h n end cards hand tally r cards₃ hand₁
   unfolding runCopies copyMade
   brought-hand q l tally held shifted r from hand₁ cards₂ cards₃ t i a j p m o s =
-      let cs : List Pair = shift h (steps (next places) n h) in
+      let cs : List Pair = shift h (steps (dest places) n h) in
       let low : h < length places = inside-here places n h inside in
       let one : handed b cards hand₁ ≡ copyMade b end HAND (handed b cards hand) = made-to-hand b end HAND cards hand refl from j (λ e. omega arith) hand₁ p in
       let two : handed b cards₂ hand₁ ≡ runCopies b cs (copyMade b end HAND (handed b cards hand)) =

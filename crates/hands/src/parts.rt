@@ -5,8 +5,9 @@ ghost use Prim.Native.Nat.{_+_, _*_, _≤_, _<_};
 ghost use lib.ListN.{length, take};
 ghost use Rattle.answers.specs.Answers.{plusCopies};
 ghost use Rattle.racks.specs.Limits.{FREE, BYTES, COPIES, SLOTS};
+ghost use Rattle.racks.specs.Table.{dest};
 ghost use Rattle.moves.specs.Blocks.{block, putBlock};
-ghost use Rattle.factors.specs.Copies.{next, shift, copies};
+ghost use Rattle.factors.specs.Copies.{shift, copies};
 ghost use Rattle.factors.specs.parts.Chains.{Chained};
 ghost use Rattle.factors.specs.parts.Walks.{COUNTED, Sources, Unmarked, steps, Inside, walkCount};
 ghost use Rattle.copies.specs.parts.Writes.{due};
@@ -45,7 +46,7 @@ pub fn bring(
 ) -> Tally
     requires { ⌜ Inside (now (now places)) left x × (length (now (now places)) ≤ SLOTS) × (b ≤ BYTES) × (length (now cards) ≡ length (now (now places)) * b) × (tally .copies + left ≤ COPIES) ⌝ }
     ensures counts { λ r. ⌜ r ≡ plusCopies left tally ⌝ }
-    ensures cards { λ _. ⌜ now (cards .exit) ≡ slid b (shift x (steps (next (now (now (places .entry)))) left x)) (now (cards .entry)) ⌝ }
+    ensures cards { λ _. ⌜ now (cards .exit) ≡ slid b (shift x (steps (dest (now (now (places .entry)))) left x)) (now (cards .entry)) ⌝ }
 {
     if left == 0 {
         return tally;
@@ -67,7 +68,7 @@ pub fn bring_chain(
 ) -> Tally
     requires { ⌜ Inside (now (now places)) left x × (length (now (now places)) ≤ SLOTS) × (b ≤ BYTES) × (length (now cards) ≡ length (now (now places)) * b) × (tally .copies + left ≤ COPIES) ⌝ }
     ensures counts { λ r. ⌜ r ≡ plusCopies left tally ⌝ }
-    ensures cards { λ _. ⌜ now (cards .exit) ≡ slid b (shift x (steps (next (now (now (places .entry)))) left x)) (now (cards .entry)) ⌝ }
+    ensures cards { λ _. ⌜ now (cards .exit) ≡ slid b (shift x (steps (dest (now (now (places .entry)))) left x)) (now (cards .entry)) ⌝ }
 {
     if left <= walks::STRETCH {
         return bring(places, cards, b, x, left, tally);

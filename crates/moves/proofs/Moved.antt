@@ -36,9 +36,9 @@ unfolding movedPlaces
 moved-places {S} {m} places sized e =
     let middle : List ℕ = set places (m .1) (dest places (m .0)) in
     record {
-      at-from = getD-set-same middle (m .0) FREE 0 (simp length-set (omega (arith, e .from-lt)));
-      at-to = getD-set-other middle (m .0) (m .1) FREE 0 (λ q. e .differ (sym q)) ∙ getD-set-same places (m .1) (dest places (m .0)) 0 (omega (arith, e .to-lt));
-      other = λ g a b. getD-set-other middle (m .0) g FREE 0 a ∙ getD-set-other places (m .1) g (dest places (m .0)) 0 b;
+      at-from = getD-set-same middle (m .0) FREE FREE (simp length-set (omega (arith, e .from-lt)));
+      at-to = getD-set-other middle (m .0) (m .1) FREE FREE (λ q. e .differ (sym q)) ∙ getD-set-same places (m .1) (dest places (m .0)) FREE (omega (arith, e .to-lt));
+      other = λ g a b. getD-set-other middle (m .0) g FREE FREE a ∙ getD-set-other places (m .1) g (dest places (m .0)) FREE b;
     }
 
 -- a card that is not away is bound for no rack

@@ -10,6 +10,7 @@ use Rattle.counting.specs.Every.{All, Pairwise}
 use Rattle.counting.proofs.Every.{all-map, all-both}
 use Rattle.counting.specs.Every.All.{more, none}
 use Rattle.counting.specs.Every.Pairwise.{end, link}
+use Rattle.racks.specs.Limits.{FREE}
 use Rattle.racks.specs.Racks.{Rack, slots}
 use Rattle.racks.specs.parts.Legal.{Legal}
 use Rattle.plans.specs.Allowed.{Allowed, Apart}
@@ -67,7 +68,7 @@ module _ {S : ℕ} {m n : Pair} (e : Ends S m) (e′ : Ends S n) (d : Disjoint m
   -- two moves of four ends may change places, for the table
   pub places-swap : (places : List ℕ) → length places ≡ S → movedPlaces n (movedPlaces m places) ≡ movedPlaces m (movedPlaces n places)
   places-swap places s =
-      ext-getD 0 _ _ (simp length-moved)
+      ext-getD FREE _ _ (simp length-moved)
       (λ g _. moved-comm d (moved-places places s e) (moved-places (movedPlaces m places) (simp length-moved s) e′) (moved-places places s e′)
       (moved-places (movedPlaces n places) (simp length-moved s) e) g)
 

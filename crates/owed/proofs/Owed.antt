@@ -17,16 +17,23 @@ use Rattle.racks.specs.Table.{dest, rackTo, away, bound, owes}
 use Rattle.racks.specs.parts.Legal.{Legal}
 use Rattle.racks.proofs.Away.{away-held, to-away, to-rack, to-is, bound-on, bound-off}
 use Rattle.tables.specs.parts.Tables.{namedSlot, target, awayBy, Filled}
-use Rattle.tables.proofs.Targets.{at-target, at-away, here-lt, target-is, target-lt, named-lt, away-by}
+use Rattle.tables.proofs.Targets.{named-read, at-target, at-away, here-lt, target-is, target-lt, named-lt, away-by}
 use Rattle.queues.specs.parts.Line.{Blank}
 use Rattle.queues.proofs.Counts.{more-by, one-count, one-few, one-long}
 use Rattle.owed.specs.parts.Owed.{cell, Owed, owesWith, Countable}
 
--- n is the slot that slot g's entry names
-module _ (places racking : List ℕ) (g n : ℕ) (en : n ≡ namedSlot g (dest places g)) (owed : List ℕ) (q : Countable places racking g owed) where
+-- n is the slot that slot g's entry names, as the code reads it
+module _ (places racking : List ℕ) (g n : ℕ) (en : n ≡ namedSlot g (getD places g 0)) (owed : List ℕ) (q : Countable places racking g owed) where
+  named : n ≡ namedSlot g (dest places g)
+  named = named-read places g n (q .slot) en
+
+  -- the racking has a place for it
+  pub slot-named : n < 4096
+  slot-named = rw named (q .named)
+
   -- the table has the named slot's rack, and so the counts a place for the two
   pub slot-racked : getD racking n 0 < 64
-  slot-racked = rw (at-target racking places g n en) (q .racked)
+  slot-racked = rw (at-target racking places g n named) (q .racked)
 
   pub slot-cell : cell (getD racking g 0) (getD racking n 0) < 4096
   slot-cell = omega (arith, q .rack, slot-racked)
@@ -35,7 +42,7 @@ module _ (places racking : List ℕ) (g n : ℕ) (en : n ≡ namedSlot g (dest p
   pub counted-slot : (x : ℕ) → x ≡ bit (not (eqb (getD racking g 0) (getD racking n 0)))
       → set owed (cell (getD racking g 0) (getD racking n 0)) (getD owed (cell (getD racking g 0) (getD racking n 0)) 0 + x) ≡ owesWith places racking g owed
   unfolding owesWith
-  counted-slot x ex = rw (ex, at-away racking places g n en, at-target racking places g n en) (more-by (awayBy racking places g) (cell (getD racking g 0) (target racking places g)) owed)
+  counted-slot x ex = rw (ex, at-away racking places g n named, at-target racking places g n named) (more-by (awayBy racking places g) (cell (getD racking g 0) (target racking places g)) owed)
 
 -- the first g slots are counted
 pub record CountedTo (racks : List Rack) (places : List ℕ) (g : ℕ) (owed : List ℕ) : Type 0 where

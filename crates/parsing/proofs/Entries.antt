@@ -71,10 +71,10 @@ module _ (raw : List ℕ) (x g : ℕ) (count : length raw ≡ g) where
   more-is = each-append entryOf raw (x ∷ [])
 
   more-first : (h : ℕ) → h < g → dest (each entryOf raw) h ≡ dest more h
-  more-first h l = rw more-is (sym (List·getD-append (each entryOf raw) (entryOf x ∷ []) 0 h (omega (arith, length-each entryOf raw))))
+  more-first h l = rw more-is (sym (List·getD-append (each entryOf raw) (entryOf x ∷ []) FREE h (omega (arith, length-each entryOf raw))))
 
   more-last : dest more g ≡ entryOf x
-  more-last = rw more-is (getD-at (each entryOf raw) (entryOf x) [] 0 g (length-each entryOf raw ∙ count))
+  more-last = rw more-is (getD-at (each entryOf raw) (entryOf x) [] FREE g (length-each entryOf raw ∙ count))
 
 -- g entries are read: they are at the front of the list and were passed, and what is left is as from the start
 pub record Entering (racks : List Rack) (file : List ℕ) (at g place : ℕ) (places marks : List ℕ) (worst : ℕ) : Type 0 where

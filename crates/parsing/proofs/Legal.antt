@@ -160,7 +160,7 @@ module _ (file : List ℕ) (a : Accepted file) where
   entry-ok g l =
       let x = getD (readEntries file .values) g 0 in
       let w = entry-right g (omega (arith, places-length)) in
-      ap (λ (v : ℕ). not (eqb v FREE or isUser (fileRacks file) v)) (getD-each entryOf (readEntries file .values) g 0 0 (omega (arith, entries-length, places-length)))
+      ap (λ (v : ℕ). not (eqb v FREE or isUser (fileRacks file) v)) (getD-each entryOf (readEntries file .values) g 0 FREE (omega (arith, entries-length, places-length)))
       ∙ sym (wrong-same (fileRacks file) x (entry-small x w)) ∙ w
 
 -- it is legal

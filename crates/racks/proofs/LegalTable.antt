@@ -86,10 +86,10 @@ module _ (racks : List Rack) (places : List ℕ) where
   pub legal-dest : Legal racks places → (g : ℕ) → g < slots racks → free places g ≡ false → dest places g < slots racks
   legal-dest v g l f = user-lt racks (dest places g) (v .named g l f)
 
-  -- the same, by the tests that code makes
-  pub legal-slot : Legal racks places → (g : ℕ) → g < length places → (dest places g ≡ FREE → ⊥) → dest places g < slots racks
+  -- the same, by the tests that code makes of what it reads
+  pub legal-slot : Legal racks places → (g x : ℕ) → g < length places → x ≡ dest places g → (x ≡ FREE → ⊥) → x < slots racks
   unfolding free
-  legal-slot v g l f = legal-dest v g (omega (arith, v .long)) (ne-eqb (dest places g) FREE f)
+  legal-slot v g x l e f = rw e (legal-dest v g (omega (arith, v .long)) (ne-eqb (dest places g) FREE (λ q. f (e ∙ q))))
 
   clean-entry : Legal racks places → (g : ℕ) → g < length places → badEntry racks places g ≡ false
   unfolding badEntry
@@ -102,7 +102,7 @@ module _ (racks : List Rack) (places : List ℕ) where
   new-entry v g l =
       let m : g < slots racks = omega (arith, v .long) in
       by-test (free places g) (λ f. and-off-l _ (ap not f))
-      (λ f. and-off-r _ (some-none g (names places (dest places g)) (λ h k. ne-eqb _ _ (λ e. omega (arith, v .once g h m (omega arith) f (sym e))))))
+      (λ f. and-off-r _ (some-none g (names places (dest places g)) (λ h k. ne-eqb (dest places h) (dest places g) (λ e. omega (arith, v .once g h m (omega arith) f (sym e))))))
 
   -- a legal table is not refused by itself
   pub legal-places : Legal racks places → first (placesChecks racks places) ≡ 0

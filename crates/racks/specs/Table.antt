@@ -9,9 +9,9 @@ use Rattle.counting.specs.Count.{count}
 use Rattle.racks.specs.Limits.{FREE}
 use Rattle.racks.specs.Racks.{Rack, slots, rackOf}
 
--- entry g: where the card in slot g must end
+-- where the card in slot g must end: its entry; 65,535 where slot g has no card, or is no slot
 abbrev pub dest : List ℕ → ℕ → ℕ
-dest places g = getD places g 0
+dest places g = getD places g FREE
 
 -- slot g is free
 unfoldable pub free : List ℕ → ℕ → Bool

@@ -16,10 +16,9 @@ use Rattle.racks.specs.Limits.{FREE, HAND}
 use Rattle.racks.specs.Table.{dest}
 use Rattle.moves.specs.Blocks.{block, putBlock, blank}
 use Rattle.moves.proofs.Blocks.{length-put, length-blank, length-block, block-same, block-other}
-use Rattle.factors.specs.Copies.{next, copyList}
+use Rattle.factors.specs.Copies.{copyList}
 use Rattle.shuffle.specs.Shuffle.{Hands, taken, laid, runCopies, brought, copyMade}
 use Rattle.factors.specs.parts.Chains.{Chained}
-use Rattle.factors.proofs.Chains.{next-is}
 use Rattle.factors.proofs.Runs.{put, run}
 use Rattle.factors.proofs.Home.{ProperCopy, list-proper, brings-home}
 
@@ -100,13 +99,12 @@ module _ {places : List ℕ} (ok : Chained places) (b : ℕ) where
   pub list-brings : (h : Hands) → Sized b (length places) h → (g d : ℕ) → g < length places → dest places g ≡ d → d ≢ FREE
       → block b d (runCopies b (copyList places) h .cards) ≡ block b g (h .cards)
   list-brings h s g d l e q =
-      let i : next places g ≡ d = next-is places g l ∙ e in
-      let f : next places g ≢ FREE = rw i q in
-      let there : d < length places = rw i at (ok .below g f) in
+      let f : dest places g ≢ FREE = rw e q in
+      let there : d < length places = rw e at (ok .below g f) in
       let m = ok .small in
       sym (taken-slot b d (runCopies b (copyList places) h) (omega arith))
       ∙ viewed b (length places) (ok .small) (copyList places) h s (list-proper ok) d
-      ∙ rw i at (brings-home ok (λ x. taken b x h) g f)
+      ∙ rw e at (brings-home ok (λ x. taken b x h) g f)
       ∙ taken-slot b g h (omega arith)
 
   start-sized : (cards : List ℕ) → length cards ≡ length places * b → Sized b (length places) (record { cards = cards; hand = blank b })

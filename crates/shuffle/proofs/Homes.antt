@@ -46,7 +46,7 @@ module _ (racks : List Rack) (b : ℕ) (h : Held) (legal : Legal racks (h .place
       record {
         card = settled-card racks b h legal small long;
         self = λ g d l e f.
-            settled-self racks b h d (rw e at (legal-slot racks (h .places) legal g (omega (arith, legal .long)) (λ q. f (sym e ∙ q))))
+            settled-self racks b h d (legal-slot racks (h .places) legal g d (omega (arith, legal .long)) (sym e) f)
             (is-named (h .places) d g (omega (arith, legal .long)) e);
         zero = settled-blank racks b h legal small long;
         none = λ d l n. settled-free racks b h d l (not-named (h .places) d (λ g m. n g (omega (arith, legal .long))));
@@ -108,6 +108,6 @@ module _ {racks : List Rack} {b : ℕ} {h x y : Held} (small : slots racks ≤ 4
   -- **There is one**
   pub home-one : x ≡ y
   home-one =
-      let places-are = ext-getD 0 (x .places) (y .places) (u .places-long ∙ sym (v .places-long)) (λ d l. same-slot d (omega (arith, u .places-long)) .0) in
+      let places-are = ext-getD FREE (x .places) (y .places) (u .places-long ∙ sym (v .places-long)) (λ d l. same-slot d (omega (arith, u .places-long)) .0) in
       let cards-are = blocks-ext b (slots racks) (x .cards) (y .cards) (u .cards-long) (v .cards-long) (λ d l. same-slot d l .1) in
       ap (λ (p : List ℕ). held p (x .cards)) places-are ∙ ap (held (y .places)) cards-are

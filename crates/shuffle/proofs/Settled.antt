@@ -21,12 +21,11 @@ use Rattle.racks.specs.parts.Legal.{Legal}
 use Rattle.moves.specs.Blocks.{block, blank}
 use Rattle.moves.specs.Moves.{Held}
 use Rattle.moves.proofs.Blocks.{length-block, length-blank}
-use Rattle.factors.specs.Copies.{next}
 use Rattle.answers.specs.declared.Tally.{Tally}
 use Rattle.shuffle.specs.parts.Shuffled.{Shuffled}
 use Rattle.shuffle.specs.Shuffle.{brought, isNamed, lastEntry, lastCard, settledHeld}
 use Rattle.factors.specs.parts.Chains.{Chained}
-use Rattle.factors.proofs.Chains.{chained, next-is}
+use Rattle.factors.proofs.Chains.{chained}
 use Rattle.shuffle.proofs.Bytes.{brought-home, length-brought}
 
 -- slots of b bytes each, one after another
@@ -112,9 +111,8 @@ module _ (racks : List Rack) (b : ℕ) (h : Held) (v : Legal racks (h .places)) 
   pub settled-card : (g d : ℕ) → g < slots racks → dest (h .places) g ≡ d → d ≢ FREE → block b d (settledHeld racks b h .cards) ≡ block b g (h .cards)
   unfolding after
   settled-card g d l e q =
-      let i : next (h .places) g ≡ d = next-is (h .places) g (omega (arith, v .long)) ∙ e in
-      let f : next (h .places) g ≢ FREE = rw i q in
-      last-block d (omega (arith, rw i at (ok .below g f), v .long))
+      let f : dest (h .places) g ≢ FREE = rw e q in
+      last-block d (omega (arith, rw e at (ok .below g f), v .long))
       ∙ card-named (h .places) d b after (is-named (h .places) d g (omega (arith, v .long)) e)
       ∙ brought-home ok b (h .cards) long g d (omega (arith, v .long)) e q
 
@@ -126,7 +124,7 @@ module _ (racks : List Rack) (b : ℕ) (h : Held) (v : Legal racks (h .places)) 
 module _ (racks : List Rack) (b : ℕ) (h : Held) (d : ℕ) (l : d < slots racks) where
   last-dest : dest (settledHeld racks b h .places) d ≡ lastEntry (h .places) d
   unfolding settledHeld
-  last-dest = getD-tabulate (slots racks) (lastEntry (h .places)) d 0 l
+  last-dest = getD-tabulate (slots racks) (lastEntry (h .places)) d FREE l
 
   -- a settled slot names itself
   pub settled-self : isNamed (h .places) d ≡ true → dest (settledHeld racks b h .places) d ≡ d

@@ -29,26 +29,30 @@ use Rattle.answers.specs.declared.Answer.{Answer}
 abbrev said-with : Answer → Kind → State → SlotAnswer
 said-with a k s = record { answer = a; slot = record { kind = k; state = s } }
 
-module _ (racks : List Rack) (places : List ℕ) (g : ℕ) where
-  pub state-free : dest places g ≡ FREE → state.Free ≡ stateOf racks places g
+-- x is what is read at slot g
+module _ (racks : List Rack) (places : List ℕ) (g x : ℕ) (ex : x ≡ dest places g) where
+  pub state-free : x ≡ FREE → state.Free ≡ stateOf racks places g
   unfolding stateOf free
-  state-free e = rw (eq-eqb (dest places g) FREE e)
+  state-free e = rw (eq-eqb (dest places g) FREE (sym ex ∙ e))
 
-  module _ (f : dest places g ≡ FREE → ⊥) where
-    pub state-settled : dest places g ≡ g → state.Settled ≡ stateOf racks places g
+  module _ (f : x ≡ FREE → ⊥) where
+    pub state-settled : x ≡ g → state.Settled ≡ stateOf racks places g
     unfolding stateOf free settled
-    state-settled e = rw (ne-eqb (dest places g) FREE f, eq-eqb (dest places g) g e)
+    state-settled e = rw (ne-eqb (dest places g) FREE (λ q. f (ex ∙ q)), eq-eqb (dest places g) g (sym ex ∙ e))
 
-    module _ (n : dest places g ≡ g → ⊥) (here there : ℕ) (eh : here ≡ rackOf racks g) (et : there ≡ rackOf racks (dest places g)) where
+    module _ (n : x ≡ g → ⊥) (here there : ℕ) (eh : here ≡ rackOf racks g) (et : there ≡ rackOf racks x) where
+      there-is : there ≡ rackOf racks (dest places g)
+      there-is = et ∙ ap (rackOf racks) ex
+
       pub state-here : here ≡ there → state.Unsettled ≡ stateOf racks places g
       unfolding stateOf free settled away onRack rackTo _and_
       state-here e =
-          rw (ne-eqb (dest places g) FREE f, ne-eqb (dest places g) g n, eq-eqb (rackOf racks g) (rackOf racks (dest places g)) (sym eh ∙ e ∙ et))
+          rw (ne-eqb (dest places g) FREE (λ q. f (ex ∙ q)), ne-eqb (dest places g) g (λ q. n (ex ∙ q)), eq-eqb (rackOf racks g) (rackOf racks (dest places g)) (sym eh ∙ e ∙ there-is))
 
       pub state-away : (here ≡ there → ⊥) → state.Away there ≡ stateOf racks places g
       unfolding stateOf free settled away onRack rackTo _and_
       state-away d =
-          rw (ne-eqb (dest places g) FREE f, ne-eqb (dest places g) g n, ne-eqb (rackOf racks g) (rackOf racks (dest places g)) (λ e. d (eh ∙ e ∙ sym et)), et)
+          rw (ne-eqb (dest places g) FREE (λ q. f (ex ∙ q)), ne-eqb (dest places g) g (λ q. n (ex ∙ q)), ne-eqb (rackOf racks g) (rackOf racks (dest places g)) (λ e. d (eh ∙ e ∙ sym there-is)), there-is)
 
 -- a refusal, by its number
 pub said-refused : (racks : List Rack) (places : List ℕ) (g n : ℕ) → (n ≡ 0 → ⊥) → refusedSlot n ≡ said racks places g n

@@ -13,10 +13,15 @@ use Rattle.racks.specs.Racks.{Rack, slots}
 use Rattle.racks.specs.Table.{dest, free, rackTo, onRack, away}
 use Rattle.racks.specs.parts.Legal.{Legal}
 use Rattle.racks.proofs.Geometry.{rack-lt}
+use Rattle.racks.proofs.Table.{read-dest}
 use Rattle.racks.proofs.LegalTable.{legal-dest}
 use Rattle.tables.specs.parts.Tables.{namedSlot, target, awayBy, Filled}
 
--- n is the slot that slot g's entry names, as the code looks it up
+-- the slot that an entry names, as the code reads it
+pub named-read : (places : List ℕ) (g n : ℕ) → g < length places → n ≡ namedSlot g (getD places g 0) → n ≡ namedSlot g (dest places g)
+named-read places g n l e = e ∙ ap (namedSlot g) (read-dest places g l)
+
+-- n is the slot that slot g's entry names
 module _ (racking places : List ℕ) (g n : ℕ) (en : n ≡ namedSlot g (dest places g)) where
   -- the table has the card's rack there
   pub at-target : getD racking n 0 ≡ target racking places g

@@ -5,7 +5,8 @@ ghost use Prim.Native.Nat.{_+_, _*_, _≤_, _<_};
 ghost use lib.ListN.{length};
 ghost use Rattle.answers.specs.Answers.{plusCopies};
 ghost use Rattle.racks.specs.Limits.{COPIES, SLOTS};
-ghost use Rattle.factors.specs.Copies.{next, shift, copies, copyList};
+ghost use Rattle.racks.specs.Table.{dest};
+ghost use Rattle.factors.specs.Copies.{shift, copies, copyList};
 ghost use Rattle.factors.specs.parts.Chains.{Chained};
 ghost use Rattle.factors.specs.parts.Walks.{COUNTED, LISTED, Sources, Unmarked, steps, Inside, walked, walkCount};
 ghost use Rattle.copies.specs.parts.Writes.{putCopies, due, Counted, CopiesWritten, AllWritten, fits};
@@ -94,7 +95,7 @@ pub fn put_copy(list: &mut [u16], at: usize, from: u16, to: u16)
 pub fn write_shift(places: &&[u16], list: &mut [u16], x: usize, left: usize, tally: Tally) -> Tally
     requires { ⌜ Inside (now (now places)) left x × (length (now (now places)) ≤ SLOTS) × (tally .copies + left ≤ COPIES) × (2 * (tally .copies + left) ≤ length (now list)) ⌝ }
     ensures counts { λ r. ⌜ r ≡ plusCopies left tally ⌝ }
-    ensures copies { λ _. ⌜ now (list .exit) ≡ putCopies (now (list .entry)) (tally .copies) (shift x (steps (next (now (now (places .entry)))) left x)) ⌝ }
+    ensures copies { λ _. ⌜ now (list .exit) ≡ putCopies (now (list .entry)) (tally .copies) (shift x (steps (dest (now (now (places .entry)))) left x)) ⌝ }
 {
     if left == 0 {
         return tally;
@@ -110,7 +111,7 @@ pub fn write_shift(places: &&[u16], list: &mut [u16], x: usize, left: usize, tal
 pub fn write_chain(places: &&[u16], list: &mut [u16], x: usize, left: usize, tally: Tally) -> Tally
     requires { ⌜ Inside (now (now places)) left x × (length (now (now places)) ≤ SLOTS) × (tally .copies + left ≤ COPIES) × (2 * (tally .copies + left) ≤ length (now list)) ⌝ }
     ensures counts { λ r. ⌜ r ≡ plusCopies left tally ⌝ }
-    ensures copies { λ _. ⌜ now (list .exit) ≡ putCopies (now (list .entry)) (tally .copies) (shift x (steps (next (now (now (places .entry)))) left x)) ⌝ }
+    ensures copies { λ _. ⌜ now (list .exit) ≡ putCopies (now (list .entry)) (tally .copies) (shift x (steps (dest (now (now (places .entry)))) left x)) ⌝ }
 {
     if left <= walks::STRETCH {
         return write_shift(places, list, x, left, tally);

@@ -8,8 +8,9 @@ use lib.ListN.{length, getD, set}
 use Rattle.counting.specs.Tests.{pick}
 use Rattle.counting.specs.Lists.{Pair, among, last}
 use Rattle.racks.specs.Limits.{FREE, HAND, SLOTS, SOURCES}
+use Rattle.racks.specs.Table.{dest}
 use Rattle.tables.specs.parts.Tables.{namedSlot}
-use Rattle.factors.specs.Copies.{next, source, onward, back, shift, factor, copies}
+use Rattle.factors.specs.Copies.{source, onward, back, shift, factor, copies}
 
 -- the mark of a slot whose copies are counted or made: no rack has this number, so that the racking serves as marks, uncleared
 abbrev pub COUNTED : ℕ
@@ -50,11 +51,11 @@ stepped f (suc n) x = stepped f n (f x)
 -- x and the n slots that follow it are slots of the table
 unfoldable pub Inside : List ℕ → ℕ → ℕ → Type 0
 Inside places zero x = x < length places
-Inside places (suc n) x = (x < length places) × Inside places n (next places x)
+Inside places (suc n) x = (x < length places) × Inside places n (dest places x)
 
 -- the copies of n slots after h, the last card first; where `end` is a slot, its card goes to the hand before them and from there to h after them
 unfoldable pub walked : List ℕ → ℕ → ℕ → ℕ → List Pair
-walked places h n end = pick (eqb end FREE) (shift h (steps (next places) n h)) ((end, HAND) ∷ shift h (steps (next places) n h) ++ (HAND, h) ∷ [])
+walked places h n end = pick (eqb end FREE) (shift h (steps (dest places) n h)) ((end, HAND) ∷ shift h (steps (dest places) n h) ++ (HAND, h) ∷ [])
 
 -- how many they are
 unfoldable pub walkCount : ℕ → ℕ → ℕ
@@ -83,14 +84,14 @@ pub record Unmarked (places : List ℕ) (mark : ℕ) (seen : List ℕ) : Type 0 
 pub record Passed (table : List ℕ) (mark h : ℕ) (seen : List ℕ) (head left end : ℕ) (marks : List ℕ) : Type 0 where
   pub head-is : head ≡ last h (onward table h)
   pub left-is : left ≡ length (onward table h)
-  pub end-is : end ≡ next table (last h (onward table h))
+  pub end-is : end ≡ dest table (last h (onward table h))
   pub marked : Marked mark (onward table h) seen marks
 
 -- the way on from slot h, marked: it comes to h again, and `end` is the last slot where that is another, or it ends at a free slot
 pub record MarkedOn (places : List ℕ) (mark h : ℕ) (seen : List ℕ) (head left end : ℕ) (marks : List ℕ) : Type 0 where
   pub head-is : head ≡ h
   pub left-is : left ≡ length (onward places h)
-  pub ends : ((next places (last h (onward places h)) ≡ h) × (end ≡ handEnd (last h (onward places h)) left)) ⊎ ((next places (last h (onward places h)) ≡ FREE) × (end ≡ FREE))
+  pub ends : ((dest places (last h (onward places h)) ≡ h) × (end ≡ handEnd (last h (onward places h)) left)) ⊎ ((dest places (last h (onward places h)) ≡ FREE) × (end ≡ FREE))
   pub marked : Marked mark (h ∷ onward places h) seen marks
 
 -- the way back from slot k, marked

@@ -3,8 +3,8 @@ ghost use mathlib.Core.Path.{_≡_};
 ghost use Prim.Native.Nat.{_≤_, _<_};
 ghost use lib.ListN.{length};
 ghost use Rattle.racks.specs.Limits.{SLOTS, SOURCES};
+ghost use Rattle.racks.specs.Table.{dest};
 ghost use Rattle.tables.specs.parts.Tables.{namedSlot};
-ghost use Rattle.factors.specs.Copies.{next};
 ghost use Rattle.factors.specs.parts.Chains.{Chained};
 ghost use Rattle.factors.specs.parts.Walks.{COUNTED, LISTED, STRETCH, NoSources, Sources, putSource, stepped, Inside, handEnd, Passed, MarkedOn, MarkedBack, Walked};
 use crate::parts;
@@ -176,7 +176,7 @@ pub fn walk_factor(
 // The slot that is n steps after x.
 pub fn slot_after(places: &&[u16], x: usize, n: usize) -> usize
     requires { ⌜ Inside (now (now places)) n x × (length (now (now places)) ≤ SLOTS) ⌝ }
-    ensures { λ r. ⌜ r ≡ stepped (next (now (now (places .entry)))) n x ⌝ }
+    ensures { λ r. ⌜ r ≡ stepped (dest (now (now (places .entry)))) n x ⌝ }
 {
     let mut y = x;
     let mut k: usize = 0;

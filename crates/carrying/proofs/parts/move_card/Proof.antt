@@ -43,8 +43,9 @@ same-length-2 c = search needs
 
 returns : tie.Need-returns
 returns c =
-    let a = c .before .before .before .before .before .before .before .before .before .before .before .args in
-    moved-held (a .b) (a .from) (a .to) (a .places .now) (a .cards .now) _ _ (c .before .before .before .before .before .before .copy-card .ensures) (c .before .before .blank-card .ensures)
+    let s = c .before .before .before .before .before .before .before .before .before .before .before in
+    let a = s .args in
+    moved-held (a .b) (a .from) (a .to) (a .places .now) (a .cards .now) _ _ (s .pre .1 .0) (c .before .before .before .before .before .before .copy-card .ensures) (c .before .before .blank-card .ensures)
 
 pub move-card-spec : {M : Type 1} → statement M
 move-card-spec =

@@ -1,7 +1,7 @@
 use borrow.Author.Needs.{needs}
 use native.Mathlib.Omega.{arith}
 use Rattle.factors.proofs.Sourced.{named-low}
-use Rattle.tables.proofs.Targets.{at-away}
+use Rattle.tables.proofs.Targets.{named-read, at-away}
 use Rattle.copies.proofs.parts.is_away.Statement.{statement}
 use Rattle.copies.proofs.parts.is_away.Tie as tie
 
@@ -20,11 +20,11 @@ element-copy-out-result c = search needs
 element-copy-out-result-2 : tie.Need-element-copy-out-result-2
 element-copy-out-result-2 c =
     let s = c .before .before .before .before in
-    let n = c .before .named-slot .ensures in
+    let n = named-read (s .args .places .now) (s .args .g) _ (s .pre .1) (c .before .named-slot .ensures) in
     omega (arith, n, named-low (s .pre .0) (s .args .g) (s .pre .1), s .pre .0 .small)
 
 returns : tie.Need-returns
-returns c = at-away _ _ _ _ (c .before .before .named-slot .ensures)
+returns c = let s = c .before .before .before .before .before in at-away _ _ _ _ (named-read (s .args .places .now) (s .args .g) _ (s .pre .1) (c .before .before .named-slot .ensures))
 
 pub is-away-spec : {M : Type 1} → statement M
 is-away-spec =

@@ -2,6 +2,7 @@ use borrow.Author.Needs.{needs}
 use native.Mathlib.Omega.{arith}
 use Prim.Native.Nat.{_-_, _≤_}
 use Rattle.racks.specs.Job.{racksOf}
+use Rattle.racks.proofs.Table.{read-dest}
 use Rattle.entries.proofs.Marks.{Passed, passed-none, passed-more, bad-5, entries-5, entries-passed}
 use Rattle.entries.proofs.parts.entries_number.Statement.{statement}
 use Rattle.entries.proofs.parts.entries_number.Tie as tie
@@ -30,7 +31,7 @@ returns c =
     let s = l .before .before in
     let r = racksOf (s .args .job) in
     entries-5 r (s .args .places .now) (l .loop .g) (omega arith)
-    (bad-5 r (s .pre .0 .small) (s .args .places .now) (l .loop .g) (l .loop .marks) (l .loop .worst) (l .loop .inv .1) _ _ (c .before .entry-number .ensures) (c .if2 .taken))
+    (bad-5 r (s .pre .0 .small) (s .args .places .now) (l .loop .g) (l .loop .marks) (l .loop .worst) (l .loop .inv .1) _ _ (rw (read-dest (s .args .places .now) (l .loop .g) (omega arith)) at (c .before .entry-number .ensures)) (c .if2 .taken))
 
 worse-of-requires : tie.Need-worse-of-requires Inv-loop μ-loop
 worse-of-requires c κs = search needs
@@ -47,7 +48,7 @@ loop-again c =
     let l = c .before .before .before .before .before .before .before in
     let s = l .before .before in
     let r = racksOf (s .args .job) in
-    (omega arith, rw (c .worse-of .ensures) (passed-more r (s .pre .0 .small) (s .args .places .now) (l .loop .g) (l .loop .marks) (l .loop .worst) (l .loop .inv .1) _ _ (n .ensures) (c .before .if2 .left)))
+    (omega arith, rw (c .worse-of .ensures) (passed-more r (s .pre .0 .small) (s .args .places .now) (l .loop .g) (l .loop .marks) (l .loop .worst) (l .loop .inv .1) _ _ (rw (read-dest (s .args .places .now) (l .loop .g) (omega arith)) at (n .ensures)) (c .before .if2 .left)))
 
 returns-2 : tie.Need-returns-2 Inv-loop μ-loop
 returns-2 c =

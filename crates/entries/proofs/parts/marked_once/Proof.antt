@@ -2,9 +2,10 @@ use borrow.Author.Needs.{needs}
 use native.Mathlib.Omega.{arith}
 use Prim.Native.Nat.{ℕ, _-_, _≤_}
 use mathlib.Core.Path.{ap, _∙_}
+use lib.ListN.{getD}
 use Rattle.racks.specs.Job.{racksOf}
 use Rattle.racks.proofs.Jobs.{slots-few, sound-slots}
-use Rattle.racks.specs.Table.{dest}
+use Rattle.racks.proofs.Table.{read-dest}
 use Rattle.entries.specs.parts.Once.{placeOf}
 use Rattle.entries.proofs.Once.{Once, once-none, once-more, once-all, place-in}
 use Rattle.entries.proofs.parts.marked_once.Statement.{statement}
@@ -55,7 +56,7 @@ loop-again c =
       omega arith,
       rw (c .both .ensures)
           (once-more (racksOf (s .args .job)) (s .pre .0 .small) (s .args .places .now) (l .loop .marks) (l .loop .all) (l .loop .g) (l .loop .inv .1) _
-          (at .ensures ∙ ap (λ (n : ℕ). placeOf n (l .loop .g) (dest (s .args .places .now) (l .loop .g))) (sound-slots _ (s .pre .0))) _ _ (c .before .take-mark .ensures)),
+          (at .ensures ∙ ap (λ (n : ℕ). placeOf n (l .loop .g) (getD (s .args .places .now) (l .loop .g) 0)) (sound-slots _ (s .pre .0)) ∙ ap (placeOf _ _) (read-dest (s .args .places .now) (l .loop .g) (omega arith))) _ _ (c .before .take-mark .ensures)),
     )
 
 returns : tie.Need-returns Inv-loop μ-loop

@@ -61,7 +61,7 @@ module _ (t : ℕ) where
       let f = c .before .before .before .before .before .before in
       let w = f .bring-chain .ensures in
       let v = c .before .before .bring2 .ensures in
-      (plus-both _ _ _ _ STRETCH _ (w .0) (v .0) (omega arith), slid-cut _ _ STRETCH _ _ _ _ _ _ (omega arith) (f .before .before .slot-after .ensures) (w .1) (v .1))
+      (plus-both _ _ _ _ STRETCH _ (w .0) (v .0) (omega arith), slid-cut _ _ _ STRETCH _ _ _ _ _ (omega arith) (f .before .before .slot-after .ensures) (w .1) (v .1))
 
 pub +bring-chain-spec : {M : Type 1} → statement M
 +bring-chain-spec =

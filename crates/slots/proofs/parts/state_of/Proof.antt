@@ -5,6 +5,7 @@ use lib.ListN.{getD}
 use Rattle.racks.specs.Job.{racksOf}
 use Rattle.racks.specs.Racks.{slots, rackOf}
 use Rattle.slots.proofs.Slots.{state-free, state-settled, state-here, state-away}
+use Rattle.racks.proofs.Table.{read-dest}
 use Rattle.racks.proofs.LegalTable.{legal-slot}
 use Rattle.racks.proofs.Jobs.{sound-slots, sound-few}
 use Rattle.slots.proofs.Lookups.{looked-up}
@@ -16,7 +17,7 @@ use Rattle.slots.proofs.parts.state_of.Tie as tie
 slot : (c : tie.Else2) → getD (c .before .before .before .args .places .now) (c .before .before .before .args .g) 0 < slots (racksOf (c .before .before .before .args .job))
 slot c =
     let s = c .before .before .before in
-    legal-slot (racksOf (s .args .job)) (s .args .places .now) (s .pre .0 .legal) (s .args .g) (s .pre .1) (c .before .if1 .left)
+    legal-slot (racksOf (s .args .job)) (s .args .places .now) (s .pre .0 .legal) (s .args .g) _ (s .pre .1) (read-dest (s .args .places .now) (s .args .g) (s .pre .1)) (c .before .if1 .left)
 
 -- the racks looked up
 here : (c : tie.Else2) → getD (c .before .before .before .args .racking .now) (c .before .before .before .args .g) 0 ≡ rackOf (racksOf (c .before .before .before .args .job)) (c .before .before .before .args .g)
@@ -36,7 +37,7 @@ shared-slice-read-x c = search needs
 returns : tie.Need-returns
 returns c =
     let s = c .before .before in
-    state-free (racksOf (s .args .job)) (s .args .places .now) (s .args .g) (c .if1 .taken)
+    state-free (racksOf (s .args .job)) (s .args .places .now) (s .args .g) _ (read-dest (s .args .places .now) (s .args .g) (s .pre .1)) (c .if1 .taken)
 
 cast-to : tie.Need-cast-to
 cast-to c = omega (arith, c .before .shared-slice-known .given (c .before .before .args .g))
@@ -44,12 +45,12 @@ cast-to c = omega (arith, c .before .shared-slice-known .given (c .before .befor
 returns-2 : tie.Need-returns-2
 returns-2 c =
     let s = c .before .before .before in
-    state-settled (racksOf (s .args .job)) (s .args .places .now) (s .args .g) (c .before .if1 .left) (c .if2 .taken)
+    state-settled (racksOf (s .args .job)) (s .args .places .now) (s .args .g) _ (read-dest (s .args .places .now) (s .args .g) (s .pre .1)) (c .before .if1 .left) (c .if2 .taken)
 
 element-copy-out-there : tie.Need-element-copy-out-there
 element-copy-out-there c =
     let s = c .before .before .before in
-    omega (arith, legal-slot (racksOf (s .args .job)) (s .args .places .now) (s .pre .0 .legal) (s .args .g) (s .pre .1) (c .before .if1 .left), s .pre .0 .sound .small)
+    omega (arith, slot c, s .pre .0 .sound .small)
 
 element-copy-out-if3 : tie.Need-element-copy-out-if3
 element-copy-out-if3 c =
@@ -60,7 +61,7 @@ returns-3 : tie.Need-returns-3
 returns-3 c =
     let e = c .before .before .before in
     let s = e .before .before .before in
-    state-here (racksOf (s .args .job)) (s .args .places .now) (s .args .g) (e .before .if1 .left) (e .if2 .left) _ _ (here e) (there e) (c .if3 .taken)
+    state-here (racksOf (s .args .job)) (s .args .places .now) (s .args .g) _ (read-dest (s .args .places .now) (s .args .g) (s .pre .1)) (e .before .if1 .left) (e .if2 .left) _ _ (here e) (there e) (c .if3 .taken)
 
 cast-t8 : tie.Need-cast-t8
 cast-t8 c =
@@ -72,7 +73,7 @@ returns-4 : tie.Need-returns-4
 returns-4 c =
     let e = c .before .before .before in
     let s = e .before .before .before in
-    state-away (racksOf (s .args .job)) (s .args .places .now) (s .args .g) (e .before .if1 .left) (e .if2 .left) _ _ (here e) (there e) (c .if3 .left)
+    state-away (racksOf (s .args .job)) (s .args .places .now) (s .args .g) _ (read-dest (s .args .places .now) (s .args .g) (s .pre .1)) (e .before .if1 .left) (e .if2 .left) _ _ (here e) (there e) (c .if3 .left)
 
 pub state-of-spec : {M : Type 1} → statement M
 state-of-spec =

@@ -3,6 +3,7 @@ use Prim.Native.Nat.{_≤_, _-_}
 use native.Mathlib.Omega.{arith}
 use lib.ListN.{length}
 use borrow.Author.Needs.{needs}
+use Rattle.racks.proofs.Table.{read-dest}
 use Rattle.factors.proofs.Sourced.{SourcesTo, sources-none, sources-more, sources-all, entry-low, source-place}
 use Rattle.factors.proofs.parts.walks.fill_sources.Statement.{statement}
 use Rattle.factors.proofs.parts.walks.fill_sources.Tie as tie
@@ -39,7 +40,7 @@ loop-again c =
     let l = c .before .before .before .before .before .before in
     let s = l .before .before .before in
     let p = c .before .before .put-source in
-    (omega arith, p .kept .0 ∙ l .loop .inv .1, sources-more _ (s .pre .0 .small) _ _ _ (l .loop .inv .2) (p .ensures))
+    (omega arith, p .kept .0 ∙ l .loop .inv .1, sources-more _ (s .pre .0 .small) _ _ _ (l .loop .inv .2) (rw (read-dest (s .args .places .now) (l .loop .g) (omega arith)) at (p .ensures)))
 
 same-length : tie.Need-same-length Inv-loop μ-loop
 same-length c = c .before .loop .inv .1

@@ -3,6 +3,8 @@ use borrow.Author.Needs.{needs}
 use mathlib.Core.Path.{_≡_, sym}
 use Prim.Native.Nat.{_+_, _-_, _≤_}
 use Rattle.racks.specs.Table.{free}
+use Rattle.racks.proofs.Table.{read-dest}
+use Rattle.counting.specs.Tests.{bit}
 use Rattle.counting.specs.Count.{count}
 use Rattle.counting.proofs.Tests.{bit-le}
 use Rattle.queues.specs.parts.Queued.{freeFrom}
@@ -16,10 +18,14 @@ Inv-loop places low high free₀ g₀ free g = (low ≤ g) × (g ≤ high) × (f
 abbrev μ-loop : tie.MeasureT-loop
 μ-loop places low high free₀ g₀ free g = high - g
 
--- a slot adds 0 or 1
-one : (c : tie.After-one-if Inv-loop μ-loop) → c .one-if .result ≤ 1
+-- what is added: whether the slot is free
+adds : (c : tie.After-one-if Inv-loop μ-loop) → c .one-if .result ≡ bit (free (c .before .before .before .before .before .args .places .now) (c .before .before .before .loop .g))
 unfolding free
-one c = bit-le (c .one-if .result) (free (c .before .before .before .before .before .args .places .now) (c .before .before .before .loop .g)) (c .one-if .ensures)
+adds c = rw (read-dest (c .before .before .before .before .before .args .places .now) (c .before .before .before .loop .g) (omega arith)) at (c .one-if .ensures)
+
+-- which is 0 or 1
+one : (c : tie.After-one-if Inv-loop μ-loop) → c .one-if .result ≤ 1
+one c = bit-le _ (free (c .before .before .before .before .before .args .places .now) (c .before .before .before .loop .g)) (adds c)
 
 loop-holds : tie.Need-loop-holds Inv-loop μ-loop
 loop-holds c = (omega arith, omega arith, omega arith, sym (free-none _ _ _ (omega arith)))
@@ -43,8 +49,7 @@ loop-less : tie.Need-loop-less Inv-loop μ-loop
 loop-less c = omega arith
 
 loop-again : tie.Need-loop-again Inv-loop μ-loop
-unfolding free
-loop-again c = (omega arith, omega arith, omega (arith, one c), free-more _ _ _ _ _ (omega arith) (c .before .before .before .loop .inv .3) (c .one-if .ensures))
+loop-again c = (omega arith, omega arith, omega (arith, one c), free-more _ _ _ _ _ (omega arith) (c .before .before .before .loop .inv .3) (adds c))
 
 returns : tie.Need-returns Inv-loop μ-loop
 returns c = let l = c .before .loop in let e : l .g ≡ c .before .before .before .args .high = omega arith in rw e at (l .inv .3)

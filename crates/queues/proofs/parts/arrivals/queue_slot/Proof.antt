@@ -6,7 +6,7 @@ use lib.Dec.{eqb}
 use lib.ListN.{getD}
 use Rattle.counting.proofs.Tests.{bit-le}
 use Rattle.queues.specs.parts.Line.{tailOf}
-use Rattle.queues.proofs.QueueSlot.{slot-racked, slot-fits, queued-slot}
+use Rattle.queues.proofs.QueueSlot.{slot-named, slot-racked, slot-fits, queued-slot}
 use Rattle.queues.proofs.parts.arrivals.queue_slot.Statement.{statement}
 use Rattle.queues.proofs.parts.arrivals.queue_slot.Tie as tie
 
@@ -34,7 +34,7 @@ named-slot-requires : tie.Need-named-slot-requires
 named-slot-requires c κs = search needs
 
 element-copy-out-there : tie.Need-element-copy-out-there
-element-copy-out-there c = search needs
+element-copy-out-there c = slot-named _ _ _ _ (c .named-slot .ensures) _ (c .before .before .before .before .pre)
 
 cast-there : tie.Need-cast-there
 cast-there c = omega (arith, racked c)

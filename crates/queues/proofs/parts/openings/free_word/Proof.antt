@@ -3,7 +3,9 @@ use native.Mathlib.Omega.{arith}
 use Prim.Native.Nat.{_-_, _≤_}
 use mathlib.Core.Path.{_≡_}
 use Rattle.racks.specs.Table.{free}
+use Rattle.racks.proofs.Table.{read-dest}
 use Rattle.queues.specs.parts.Openings.{Word}
+use Rattle.counting.specs.Tests.{bit}
 use Rattle.counting.proofs.Tests.{bit-le}
 use Rattle.queues.proofs.Openings.{word-none, word-more, doubled-fits}
 use Rattle.queues.proofs.parts.openings.free_word.Statement.{statement}
@@ -33,10 +35,16 @@ shared-slice-read-one-if c = omega (arith, c .before .before .loop .inv .1)
 one-if-requires : tie.Need-one-if-requires Inv-loop μ-loop
 one-if-requires c κs = search needs
 
--- 0 or 1
-few : (c : tie.After-one-if Inv-loop μ-loop) → c .one-if .result ≤ 1
+-- the slot's bit: whether it is free
+adds : (c : tie.After-one-if Inv-loop μ-loop) → c .one-if .result ≡ bit (free (c .before .before .before .before .before .args .places .now) (c .before .before .before .loop .g - 1))
 unfolding free
-few c = bit-le (c .one-if .result) (free (c .before .before .before .before .before .args .places .now) (c .before .before .before .loop .g - 1)) (c .one-if .ensures)
+adds c =
+    let l = c .before .before .before .loop in
+    rw (read-dest (c .before .before .before .before .before .args .places .now) (l .g - 1) (omega (arith, l .inv .1))) at (c .one-if .ensures)
+
+-- which is 0 or 1
+few : (c : tie.After-one-if Inv-loop μ-loop) → c .one-if .result ≤ 1
+few c = bit-le _ (free (c .before .before .before .before .before .args .places .now) (c .before .before .before .loop .g - 1)) (adds c)
 
 cast-word : tie.Need-cast-word Inv-loop μ-loop
 cast-word c = omega (arith, few c)
@@ -48,8 +56,7 @@ loop-less : tie.Need-loop-less Inv-loop μ-loop
 loop-less c = omega arith
 
 loop-again : tie.Need-loop-again Inv-loop μ-loop
-unfolding free
-loop-again c = let l = c .before .before .before .loop in (omega arith, omega (arith, l .inv .1), word-more _ _ (l .g) (l .word) (omega arith) (l .inv .1) (l .inv .2) _ (c .one-if .ensures))
+loop-again c = let l = c .before .before .before .loop in (omega arith, omega (arith, l .inv .1), word-more _ _ (l .g) (l .word) (omega arith) (l .inv .1) (l .inv .2) _ (adds c))
 
 returns : tie.Need-returns Inv-loop μ-loop
 returns c = let e : c .before .loop .g ≡ c .before .before .before .args .low = omega (arith, c .before .loop .inv .0) in rw e at (c .before .loop .inv .2)
