@@ -74,10 +74,10 @@ extern "C" {
 #endif
 
 /* The version of this header, which is that of the Rust crate beside it. */
-#define SEINEFLUTE_VERSION "0.2.1"
+#define SEINEFLUTE_VERSION "0.2.2"
 #define SEINEFLUTE_VERSION_MAJOR 0
 #define SEINEFLUTE_VERSION_MINOR 2
-#define SEINEFLUTE_VERSION_PATCH 1
+#define SEINEFLUTE_VERSION_PATCH 2
 
 /* Limits. */
 enum {
