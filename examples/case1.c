@@ -1,6 +1,6 @@
 /*
- * Case 1 of the paper cards: reads the job file of 21 bytes, runs it, prints the number, the counts,
- * the table and the cards, and then the listing of the file.
+ * Case 1 of the paper cards: reads the job file of 21 bytes, writes it again from what was read, runs
+ * it, prints the number, the counts, the table and the cards, and then the listing of the file.
  *
  *     rt staticlib seineflute
  *     cc -std=c99 -Wall -Wextra -Iinclude examples/case1.c target/staticlib/libseineflute.a -o target/case1
@@ -33,6 +33,18 @@ static void print_pairs(const uint16_t *list, size_t pairs)
     printf("\n");
 }
 
+/* Writes the job's file and prints it; gives whether it has the bytes of the one above. */
+static int written(const uint16_t *caps, size_t n, size_t b, const uint16_t *places, size_t s, const uint8_t *cards)
+{
+    static uint8_t out[SEINEFLUTE_WRITE_ROOM];
+    seineflute_size_answer w = seineflute_write_file(caps, n, b, places, s, cards, s * b, out, sizeof out);
+    printf("write: number %zu (%s) size %zu\n", w.number, seineflute_words(w.number), w.size);
+    for (size_t i = 0; i < w.size; i++)
+        printf("%s%02x", i == 0 ? "" : " ", out[i]);
+    printf("\n");
+    return w.size == sizeof job && memcmp(out, job, sizeof job) == 0;
+}
+
 int main(void)
 {
     static uint16_t caps[SEINEFLUTE_MAX_RACKS];
@@ -49,6 +61,11 @@ int main(void)
     size_t n = f.racks, b = f.bytes, s = f.slots;
     printf("read: racks %zu bytes %zu slots %zu place %zu\n", n, b, s, f.place);
     memcpy(cards, job + f.place, s * b);
+
+    if (!written(caps, n, b, places, s, cards)) {
+        printf("the file that was written is another\n");
+        return 1;
+    }
 
     seineflute_slot_answer q = seineflute_slot_question(caps, n, places, s, 1);
     printf("slot 1: kind %zu state %zu rack %zu\n", q.kind, q.state, q.rack);
@@ -78,7 +95,7 @@ int main(void)
     printf("\n");
 
     static uint8_t text[SEINEFLUTE_TEXT_ROOM];
-    seineflute_listing_answer l = seineflute_list_job(job, sizeof job, text, sizeof text);
+    seineflute_size_answer l = seineflute_list_job(job, sizeof job, text, sizeof text);
     fwrite(text, 1, l.size, stdout);
     return 0;
 }

@@ -171,7 +171,24 @@ static uint8_t *put(uint8_t *at, size_t x)
     return at;
 }
 
-/* The job as a file, read into lists of exactly its lengths, and cut by a byte. */
+/* The job's file, of so many bytes, written into buffers that are one byte too short and exactly long enough. */
+static void written(struct job *j, const uint8_t *file, size_t size)
+{
+    uint8_t *out = room(size - 1);
+    seineflute_size_answer w =
+        seineflute_write_file(j->caps, j->n, j->b, j->places, j->s, j->cards, j->s * j->b, out, size - 1);
+    expect(w.number == SEINEFLUTE_BUFFER_SHORT && w.size == 0, "a buffer shorter than the file");
+    free(out);
+    out = room(size);
+    w = seineflute_write_file(j->caps, j->n, j->b, j->places, j->s, j->cards, j->s * j->b - 1, out, size);
+    expect(w.number == SEINEFLUTE_BAD_LENGTH && w.size == 0, "a file of cards that are too short");
+    w = seineflute_write_file(j->caps, j->n, j->b, j->places, j->s, j->cards, j->s * j->b, out, size);
+    expect(w.number == SEINEFLUTE_DONE && w.size == size, "a buffer exactly as long as the file");
+    expect(w.size == size && memcmp(out, file, size) == 0, "the bytes of the file");
+    free(out);
+}
+
+/* The job as a file, written, read into lists of exactly its lengths, and cut by a byte. */
 static void as_file(struct job *j)
 {
     uint8_t *most = room(6 + 3 * j->n + 3 * j->s + j->s * j->b);
@@ -185,6 +202,7 @@ static void as_file(struct job *j)
     uint8_t *file = room(size);
     memcpy(file, most, size);
     free(most);
+    written(j, file, size);
 
     uint16_t *caps = room(j->n * sizeof *caps), *places = room(j->s * sizeof *places);
     seineflute_file_answer f = seineflute_read_file(file, size - 1, caps, j->n, places, j->s);
@@ -200,7 +218,7 @@ static void as_file(struct job *j)
     free(places);
 
     uint8_t *text = room(SEINEFLUTE_TEXT_ROOM);
-    seineflute_listing_answer t = seineflute_list_job(file, size, text, SEINEFLUTE_TEXT_ROOM);
+    seineflute_size_answer t = seineflute_list_job(file, size, text, SEINEFLUTE_TEXT_ROOM);
     expect(t.number == SEINEFLUTE_DONE, "the listing");
     expect((size > SEINEFLUTE_MAX_FILE) == (memcmp(text, "refused 18\n", 11) == 0), "a listing that is refused");
     size_t bytes = t.size;

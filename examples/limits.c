@@ -30,6 +30,7 @@ int main(void)
     same("bytes of a file", SEINEFLUTE_MAX_FILE, l.file);
     same("numbers of a plan", SEINEFLUTE_PLAN_ROOM, 2 * l.slots);
     same("numbers of a copy list", SEINEFLUTE_COPY_ROOM, 3 * l.slots);
+    same("bytes of a file that is written", SEINEFLUTE_WRITE_ROOM, 3 + 2 * (l.racks + l.slots) + l.slots * l.bytes);
     same("bytes of a text", SEINEFLUTE_TEXT_ROOM, l.enough);
     return wrong;
 }

@@ -34,6 +34,7 @@
  *
  *     limits                             1
  *     read_file, check_table, one_move  14
+ *     write_file                        14
  *     slot_question                     15
  *     phase_plan                        24
  *     budgeted_moves                    40
@@ -74,10 +75,10 @@ extern "C" {
 #endif
 
 /* The version of this header, which is that of the Rust crate beside it. */
-#define SEINEFLUTE_VERSION "0.2.2"
+#define SEINEFLUTE_VERSION "0.3.0"
 #define SEINEFLUTE_VERSION_MAJOR 0
-#define SEINEFLUTE_VERSION_MINOR 2
-#define SEINEFLUTE_VERSION_PATCH 2
+#define SEINEFLUTE_VERSION_MINOR 3
+#define SEINEFLUTE_VERSION_PATCH 0
 
 /* Limits. */
 enum {
@@ -91,9 +92,11 @@ enum {
 
 /* Room that is enough in every job. */
 enum {
-    SEINEFLUTE_PLAN_ROOM = 8192,  /* numbers of the phase plan: at most a pair for each slot */
-    SEINEFLUTE_COPY_ROOM = 12288, /* numbers of the copy list: at most three copies for two slots */
-    SEINEFLUTE_TEXT_ROOM = 245818 /* bytes of the listing */
+    SEINEFLUTE_PLAN_ROOM = 8192,     /* numbers of the phase plan: at most a pair for each slot */
+    SEINEFLUTE_COPY_ROOM = 12288,    /* numbers of the copy list: at most three copies for two slots */
+    SEINEFLUTE_WRITE_ROOM = 1056899, /* bytes of a job file: at most three for N and B, two for each rack and
+                                        each slot, and the cards */
+    SEINEFLUTE_TEXT_ROOM = 245818    /* bytes of the listing */
 };
 
 /* Marks. */
@@ -123,7 +126,8 @@ enum {
     SEINEFLUTE_FILE_ENDS = 15,        /* file: it ends too early */
     SEINEFLUTE_FILE_LEFT_OVER = 16,   /* file: bytes left over */
     SEINEFLUTE_FILE_ROOM = 17,        /* file: room for capacities below N, or for places below S */
-    SEINEFLUTE_FILE_LARGE = 18        /* in a listing's text only: file above 32,768 bytes */
+    SEINEFLUTE_FILE_LARGE = 18,       /* in a listing's text only: file above 32,768 bytes */
+    SEINEFLUTE_BUFFER_SHORT = 19      /* the buffer is shorter than the file (file writer only) */
 };
 
 /* The words of a number that a call gives back; of a number that none gives, "no such number". */
@@ -149,6 +153,7 @@ static inline const char *seineflute_words(size_t number)
     case SEINEFLUTE_FILE_LEFT_OVER: return "file: bytes are left over";
     case SEINEFLUTE_FILE_ROOM: return "file: the room for capacities or for places is too short";
     case SEINEFLUTE_FILE_LARGE: return "file: it has more than 32,768 bytes";
+    case SEINEFLUTE_BUFFER_SHORT: return "the buffer is shorter than the file";
     default: return "no such number";
     }
 }
@@ -200,14 +205,17 @@ typedef struct seineflute_file_answer {
     size_t place; /* where the card bytes begin: they are file[place] to the file's end */
 } seineflute_file_answer;
 
-/* What the listing gives. */
-typedef struct seineflute_listing_answer {
+/* What the calls that fill a buffer of bytes give: the file writer and the listing. */
+typedef struct seineflute_size_answer {
     size_t number;
     size_t phases;
     size_t moves;
     size_t copies;
-    size_t size; /* the bytes of the text */
-} seineflute_listing_answer;
+    size_t size; /* the bytes of the file, or of the text */
+} seineflute_size_answer;
+
+/* Its name before 0.3.0, when the listing alone gave it. */
+typedef seineflute_size_answer seineflute_listing_answer;
 
 /* Limits and marks, as the library has them. */
 typedef struct seineflute_limits_answer {
@@ -327,6 +335,22 @@ seineflute_file_answer seineflute_read_file(
     uint16_t *places, size_t places_len);
 
 /*
+ * Write file. Writes to the front of the buffer the job file of the capacities, b, the places and the
+ * cards: what seineflute_read_file reads as the same job. Every number is in its shortest form, so a file
+ * that was read and is written again has the same bytes. The file has `size` bytes; a buffer exactly as
+ * long is enough, and what lies behind the file is unchanged. There is no limit on its size: a file above
+ * 32,768 bytes is written, though the listing refuses it. All counts are 0. Gives 0 to 6 or 19. For N
+ * racks and S slots 3 + 2 * (N + S) + S * b bytes are always room enough, and SEINEFLUTE_WRITE_ROOM for
+ * every job.
+ */
+seineflute_size_answer seineflute_write_file(
+    const uint16_t *caps, size_t caps_len,
+    size_t b,
+    const uint16_t *places, size_t places_len,
+    const uint8_t *cards, size_t cards_len,
+    uint8_t *out, size_t out_len);
+
+/*
  * Listing. Writes to the front of the buffer the text that the program shelve prints for a job file: a
  * line for each phase, the copies, the cards and the counts; or, for a file that the reader refuses or
  * that has more than 32,768 bytes (18), the one line `refused` with that number. Both are texts, and
@@ -334,7 +358,7 @@ seineflute_file_answer seineflute_read_file(
  * text. The text has `size` bytes, with no zero byte behind it. All counts are 0: they stand in the
  * text. SEINEFLUTE_TEXT_ROOM bytes are room for every text.
  */
-seineflute_listing_answer seineflute_list_job(
+seineflute_size_answer seineflute_list_job(
     const uint8_t *file, size_t file_len,
     uint8_t *out, size_t out_len);
 

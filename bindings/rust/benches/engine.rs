@@ -10,7 +10,7 @@
 
 #![allow(dead_code)]
 
-pub use seineflute::raw::{Answer, FileAnswer, ListingAnswer, SlotAnswer};
+pub use seineflute::raw::{Answer, FileAnswer, SizeAnswer, SlotAnswer};
 use std::cmp::Ordering;
 use std::ops::Range;
 
@@ -865,10 +865,112 @@ pub fn read_file(file: &[u8], caps: &mut [u16], places: &mut [u16]) -> FileAnswe
     }
 }
 
+/// The number that stands in a file for an entry: 65,535 plus 1 is 0 here.
+#[inline(always)]
+fn entry_in_file(entry: u16) -> u16 {
+    entry.wrapping_add(1)
+}
+
+/// How many of the numbers, all below 16,384, take a second group.
+#[inline]
+fn second_groups(numbers: impl Iterator<Item = u16>) -> usize {
+    // A count of 16 bits, as the numbers are: a vector loop without widening.
+    let count: u16 = numbers.map(|number| u16::from(number >= 0x80)).sum();
+    usize::from(count)
+}
+
+/// The bytes of a number below 16,384, the first the lowest, and how many they
+/// are. Without a branch: on a table half full it would be a coin toss.
+#[inline(always)]
+fn in_groups(number: u16) -> (u16, usize) {
+    let second = u16::from(number >= 0x80);
+    let bytes = (number & 0x7f) | second << 7 | (number >> 7) << 8;
+    (bytes, 1 + usize::from(second))
+}
+
+/// Puts a number at a place and gives the place behind it. Two bytes are
+/// written always; what comes next, the card bytes at last, takes the second
+/// where it is none of the number's.
+#[inline(always)]
+fn put_number(file: &mut [u8], place: usize, number: u16) -> usize {
+    let (bytes, length) = in_groups(number);
+    file[place..place + 2].copy_from_slice(&bytes.to_le_bytes());
+    place + length
+}
+
+/// The same for four entries in one word. It fits in the file: they take four
+/// bytes or more, and behind them is a card byte or more for each.
+#[inline(always)]
+fn put_four(file: &mut [u8], place: usize, entries: &[u16]) -> usize {
+    let mut word = 0;
+    let mut length = 0;
+    for &entry in entries {
+        let (bytes, more) = in_groups(entry_in_file(entry));
+        word |= u64::from(bytes) << (8 * length);
+        length += more;
+    }
+    file[place..place + 8].copy_from_slice(&word.to_le_bytes());
+    place + length
+}
+
+/// The length of the file of a job that was checked.
+#[inline]
+fn file_length(caps: &[u16], b: usize, places: &[u16], cards: &[u8]) -> usize {
+    // N is one group, and B is two from 128 on.
+    let head = 2 + usize::from(b >= 0x80);
+    let caps_second = second_groups(caps.iter().copied());
+    let places_second = second_groups(places.iter().map(|&entry| entry_in_file(entry)));
+    head + caps.len() + caps_second + places.len() + places_second + cards.len()
+}
+
+/// Puts the file of a job that was checked where it fits exactly.
+#[inline]
+fn put_file(file: &mut [u8], caps: &[u16], b: usize, places: &[u16], cards: &[u8]) {
+    let mut place = 0;
+    for &number in [caps.len() as u16, b as u16].iter().chain(caps) {
+        place = put_number(file, place, number);
+    }
+    let fours = places.chunks_exact(4);
+    let rest = fours.remainder();
+    for four in fours {
+        place = put_four(file, place, four);
+    }
+    for &entry in rest {
+        place = put_number(file, place, entry_in_file(entry));
+    }
+    file[place..].copy_from_slice(cards);
+}
+
+/// A refusal writes nothing, so the length is counted before.
+pub fn write_file(
+    caps: &[u16],
+    b: usize,
+    places: &[u16],
+    cards: &[u8],
+    buffer: &mut [u8],
+) -> SizeAnswer {
+    let refused = |number| SizeAnswer {
+        number,
+        ..SizeAnswer::default()
+    };
+    if let Err(number) = check_job_with_cards(caps, b, places, cards) {
+        return refused(number);
+    }
+    let length = file_length(caps, b, places, cards);
+    let Some(file) = buffer.get_mut(..length) else {
+        return refused(19);
+    };
+    put_file(file, caps, b, places, cards);
+    SizeAnswer {
+        size: length,
+        ..SizeAnswer::default()
+    }
+}
+
 // ---------------------------------------------------------------------------
 // The program's listing
 
-pub fn list_job(file: &[u8], out: &mut [u8]) -> ListingAnswer {
+pub fn list_job(file: &[u8], out: &mut [u8]) -> SizeAnswer {
     let text = listing(file).unwrap_or_else(|number| {
         let mut text = b"refused ".to_vec();
         push_number(&mut text, number);
@@ -876,15 +978,15 @@ pub fn list_job(file: &[u8], out: &mut [u8]) -> ListingAnswer {
         text
     });
     if out.len() < text.len() {
-        return ListingAnswer {
+        return SizeAnswer {
             number: 13,
-            ..ListingAnswer::default()
+            ..SizeAnswer::default()
         };
     }
     out[..text.len()].copy_from_slice(&text);
-    ListingAnswer {
+    SizeAnswer {
         size: text.len(),
-        ..ListingAnswer::default()
+        ..SizeAnswer::default()
     }
 }
 

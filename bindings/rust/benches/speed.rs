@@ -32,6 +32,7 @@ struct Desk {
     cards: Vec<u8>,
     list: Vec<u16>,
     caps: Vec<u16>,
+    file: Vec<u8>,
     text: Vec<u8>,
 }
 
@@ -93,6 +94,10 @@ macro_rules! version {
                 let r = $m::read_file(&x.file, &mut d.caps, &mut d.places);
                 (r.number, r.slots)
             },
+            |j: &Job, d: &mut Desk, _: &Extra| {
+                let r = $m::write_file(&j.caps, j.b, &j.places, &j.cards, &mut d.file);
+                (r.number, r.size)
+            },
             |_: &Job, d: &mut Desk, x: &Extra| {
                 let r = $m::list_job(&x.file, &mut d.text);
                 (r.number, r.size)
@@ -101,39 +106,60 @@ macro_rules! version {
     };
 }
 
-/// A call's name, whether it is made on tables with nothing away, and whether it moves bytes.
-struct Row {
-    name: &'static str,
-    shuffling: bool,
-    moving: bool,
+/// The bytes that a call moves, which a memcpy is held against.
+#[derive(Clone, Copy)]
+enum Moved {
+    Nothing,
+    /// A card for each move or copy that it counts.
+    Counted,
+    /// The cards of all slots.
+    Cards,
 }
 
-const fn row(name: &'static str, shuffling: bool, moving: bool) -> Row {
-    Row {
-        name,
-        shuffling,
-        moving,
+impl Moved {
+    fn bytes(self, job: &Job, count: usize) -> usize {
+        match self {
+            Moved::Nothing => 0,
+            Moved::Counted => count * job.b,
+            Moved::Cards => job.cards.len(),
+        }
     }
 }
 
-const ROWS: [Row; 12] = [
-    row("check", false, false),
-    row("slot", false, false),
-    row("plan", false, false),
-    row("one move", false, true),
-    row("budget 1", false, true),
-    row("budget 100", false, true),
-    row("budget all", false, true),
-    row("copy list", true, false),
-    row("shuffle", true, true),
-    row("whole run", false, true),
-    row("read file", false, false),
-    row("listing", false, false),
+/// A call's name, whether it is made on tables with nothing away, and the bytes it moves.
+struct Row {
+    name: &'static str,
+    shuffling: bool,
+    moved: Moved,
+}
+
+const fn row(name: &'static str, shuffling: bool, moved: Moved) -> Row {
+    Row {
+        name,
+        shuffling,
+        moved,
+    }
+}
+
+const ROWS: [Row; 13] = [
+    row("check", false, Moved::Nothing),
+    row("slot", false, Moved::Nothing),
+    row("plan", false, Moved::Nothing),
+    row("one move", false, Moved::Counted),
+    row("budget 1", false, Moved::Counted),
+    row("budget 100", false, Moved::Counted),
+    row("budget all", false, Moved::Counted),
+    row("copy list", true, Moved::Nothing),
+    row("shuffle", true, Moved::Counted),
+    row("whole run", false, Moved::Counted),
+    row("read file", false, Moved::Nothing),
+    row("write file", false, Moved::Cards),
+    row("listing", false, Moved::Nothing),
 ];
 
-const OURS: [Call; 12] = version!(raw);
-const ENGINE: [Call; 12] = version!(engine);
-const PLAIN: [Call; 12] = version!(plain);
+const OURS: [Call; 13] = version!(raw);
+const ENGINE: [Call; 13] = version!(engine);
+const PLAIN: [Call; 13] = version!(plain);
 
 /// The desks of a job: one, but of a small job several.
 fn desks(job: &Job) -> Vec<Desk> {
@@ -142,6 +168,7 @@ fn desks(job: &Job) -> Vec<Desk> {
         cards: job.cards.clone(),
         list: vec![0; 3 * job.places.len() + 2],
         caps: vec![0; 64],
+        file: vec![0; 3 + 2 * (job.caps.len() + job.places.len()) + job.cards.len()],
         text: vec![0; seineflute::TEXT_ROOM],
     };
     let small = job.places.len() <= SMALL;
@@ -241,8 +268,8 @@ fn measure(call: usize, variants: &[Job], rounds: usize, plain_rounds: usize) ->
                 sum[2] += t;
                 assert_eq!(ours, plain, "{}: the versions differ", ROWS[call].name);
             }
-            if ROWS[call].moving {
-                let n = (ours.1 * job.b).min(from.len());
+            let n = ROWS[call].moved.bytes(job, ours.1).min(from.len());
+            if n > 0 {
                 sum[3] += copied(desks[i].len(), n, &from, &mut to);
                 bytes += n;
             }

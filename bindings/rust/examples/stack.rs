@@ -108,6 +108,12 @@ mod measured {
         job.number = raw::read_file(&job.file, caps, places).number;
     }
 
+    /// Over the job's own file, which is exactly as long.
+    extern "C" fn write_file(job: &mut Job) {
+        let (places, cards) = (&job.places, &job.cards);
+        job.number = raw::write_file(&job.caps, B, places, cards, &mut job.file).number;
+    }
+
     /// The same job with cards of one byte, or its file is too large.
     extern "C" fn list_job(job: &mut Job) {
         job.number = raw::list_job(&job.small, &mut job.text).number;
@@ -203,7 +209,7 @@ mod measured {
         // The same racks, each rack's cards away to the next rack, one slot on.
         let turned = job(&long[..3], |u, m| (u < m).then_some((1, (u + 1) % m)));
 
-        let calls: [(&str, Call); 12] = [
+        let calls: [(&str, Call); 13] = [
             ("nothing", nothing),
             ("limits", limits),
             ("check_table", check_table),
@@ -215,6 +221,7 @@ mod measured {
             ("shuffle_cards", shuffle_cards),
             ("whole_run", whole_run),
             ("read_file", read_file),
+            ("write_file", write_file),
             ("list_job", list_job),
         ];
         let jobs = [ring, shift, cycle, turned];

@@ -23,6 +23,9 @@
 //! in steps: [`phase_plan`] and [`one_move`], or [`budgeted_moves`]; then
 //! [`copy_list`] to see what a shuffle would copy, and [`shuffle_cards`].
 //!
+//! [`read_file`] takes a job from a job file; [`write_file`] and [`file_of`] make the
+//! file of a job in memory, at the start or midway.
+//!
 //! A refusal changes nothing that is lent.
 //!
 //! ```
@@ -104,6 +107,7 @@
 //! |---|---|
 //! | `limits` | 1 |
 //! | `read_file`, `check_table`, `one_move` | 14 |
+//! | `write_file` | 14 |
 //! | `slot_question` | 15 |
 //! | `phase_plan` | 24 |
 //! | `budgeted_moves` | 40 |
@@ -147,6 +151,10 @@ pub const PLAN_ROOM: usize = 2 * MAX_SLOTS;
 
 /// Room for the copy list of every job: three copies for two slots.
 pub const COPY_ROOM: usize = 3 * MAX_SLOTS;
+
+/// Room for the file of every job: three bytes for N and B, two for each rack and each
+/// slot, and the cards.
+pub const WRITE_ROOM: usize = file_room(MAX_RACKS, MAX_SLOTS, MAX_SLOTS * MAX_BYTES);
 
 /// Room for the listing's text of every file.
 pub const TEXT_ROOM: usize = 245_818;
@@ -207,6 +215,8 @@ pub enum Refusal {
     /// 18: listing only: the file is above 32,768 bytes. No call returns it; it
     /// stands in a listing's text.
     FileLarge = 18,
+    /// 19: the buffer is shorter than the file (file writer only).
+    BufferShort = 19,
 }
 
 impl Refusal {
@@ -230,14 +240,15 @@ impl Refusal {
         Refusal::FileLeftOver,
         Refusal::FileRoom,
         Refusal::FileLarge,
+        Refusal::BufferShort,
     ];
 
-    /// The number that the library gives for it, 1 to 18.
+    /// The number that the library gives for it, 1 to 19.
     pub fn number(self) -> usize {
         self as usize
     }
 
-    /// The refusal of a number; `None` for 0, which is done, and above 18.
+    /// The refusal of a number; `None` for 0, which is done, and above 19.
     pub fn from_number(number: usize) -> Option<Refusal> {
         Refusal::ALL.get(number.checked_sub(1)?).copied()
     }
@@ -269,6 +280,7 @@ impl Refusal {
             Refusal::FileLeftOver => "file: bytes are left over",
             Refusal::FileRoom => "file: the room for capacities or for places is too short",
             Refusal::FileLarge => "file: it has more than 32,768 bytes",
+            Refusal::BufferShort => "the buffer is shorter than the file",
         }
     }
 }
@@ -342,7 +354,7 @@ fn outcome<T>(number: usize, done: T) -> Result<T, Refusal> {
     if number == 0 {
         return Ok(done);
     }
-    Err(Refusal::from_number(number).expect("it is proved that a number is at most 18"))
+    Err(Refusal::from_number(number).expect("it is proved that a number is at most 19"))
 }
 
 fn counted(answer: raw::Answer) -> Result<Counts, Refusal> {
@@ -458,6 +470,70 @@ pub fn read_file<'a>(
         cards: &file[answer.place..],
     };
     outcome(answer.number, job)
+}
+
+/// Write file: writes to the front of `out` the job file that [`read_file`] reads as
+/// this job, and gives its length. What lies behind it is unchanged. A buffer exactly
+/// as long is enough; [`WRITE_ROOM`] always is. There is no limit on the length: that
+/// of [`MAX_FILE`] is the listing's. Refuses with 1 to 6, or 19.
+///
+/// ```
+/// use seineflute::{write_file, Refusal, FREE};
+///
+/// // One rack of two user slots and a spare, cards of one byte that change places.
+/// let mut out = [0xee; 10];
+/// let length = write_file(&[2], 1, &[1, 0, FREE], b"xy\0", &mut out)?;
+/// assert_eq!(length, 9);
+/// assert_eq!(out, *b"\x01\x01\x02\x02\x01\x00xy\0\xee");
+///
+/// let short = write_file(&[2], 1, &[1, 0, FREE], b"xy\0", &mut out[..8]);
+/// assert_eq!(short, Err(Refusal::BufferShort));
+/// # Ok::<(), seineflute::Refusal>(())
+/// ```
+pub fn write_file(
+    caps: &[u16],
+    b: usize,
+    places: &[u16],
+    cards: &[u8],
+    out: &mut [u8],
+) -> Result<usize, Refusal> {
+    let answer = raw::write_file(caps, b, places, cards, out);
+    outcome(answer.number, answer.size)
+}
+
+/// Room for the file of a job: N takes a byte, and B, a capacity or an entry at most two.
+const fn file_room(racks: usize, slots: usize, bytes: usize) -> usize {
+    3 + 2 * (racks + slots) + bytes
+}
+
+/// The job file that [`write_file`] writes, in a list of its own: the one call of this
+/// crate that allocates. Refuses with 1 to 6.
+///
+/// ```
+/// use seineflute::{file_of, read_file, FREE};
+///
+/// // 200 user slots and a spare: a number above 127 takes two bytes.
+/// let mut table = [FREE; 201];
+/// table[3] = 150;
+/// let file = file_of(&[200], 2, &table, &[7; 402])?;
+/// assert_eq!(file[..8], [1, 2, 0xc8, 0x01, 0, 0, 0, 0x97]);
+///
+/// let (mut caps, mut places) = ([0; 1], [0; 201]);
+/// let job = read_file(&file, &mut caps, &mut places)?;
+/// assert_eq!((job.racks, job.bytes, job.slots), (1, 2, 201));
+/// assert_eq!((caps, places), ([200], table));
+/// assert_eq!(job.cards, [7; 402]);
+/// # Ok::<(), seineflute::Refusal>(())
+/// ```
+pub fn file_of(caps: &[u16], b: usize, places: &[u16], cards: &[u8]) -> Result<Vec<u8>, Refusal> {
+    // A job with longer lists than these is refused.
+    let racks = caps.len().min(MAX_RACKS);
+    let slots = places.len().min(MAX_SLOTS);
+    let bytes = cards.len().min(MAX_SLOTS * MAX_BYTES);
+    let mut file = vec![0; file_room(racks, slots, bytes)];
+    let length = write_file(caps, b, places, cards, &mut file)?;
+    file.truncate(length);
+    Ok(file)
 }
 
 /// Listing: writes to the front of `out` the text that the program *shelve* prints

@@ -48,17 +48,20 @@ pub struct FileAnswer {
     pub place: usize,
 }
 
-/// What the listing gives.
+/// What the calls that fill a buffer of bytes give: the file writer and the listing.
 #[repr(C)]
 #[derive(Clone, Copy, Debug, Default, PartialEq, Eq)]
-pub struct ListingAnswer {
+pub struct SizeAnswer {
     pub number: usize,
     pub phases: usize,
     pub moves: usize,
     pub copies: usize,
-    /// The bytes of the text.
+    /// The bytes of the file, or of the text.
     pub size: usize,
 }
+
+/// Its name before 0.3.0, when the listing alone gave it.
+pub type ListingAnswer = SizeAnswer;
 
 /// The limits and marks that the library was proved with.
 #[repr(C)]
@@ -86,7 +89,7 @@ pub struct Limits {
 
 /// The library's functions: a slice is a pointer and a number of entries.
 mod c {
-    use super::{Answer, FileAnswer, Limits, ListingAnswer, SlotAnswer};
+    use super::{Answer, FileAnswer, Limits, SizeAnswer, SlotAnswer};
 
     extern "C" {
         pub fn seineflute_limits() -> Limits;
@@ -176,12 +179,24 @@ mod c {
             places_len: usize,
         ) -> FileAnswer;
 
+        pub fn seineflute_write_file(
+            caps: *const u16,
+            caps_len: usize,
+            b: usize,
+            places: *const u16,
+            places_len: usize,
+            cards: *const u8,
+            cards_len: usize,
+            out: *mut u8,
+            out_len: usize,
+        ) -> SizeAnswer;
+
         pub fn seineflute_list_job(
             file: *const u8,
             file_len: usize,
             out: *mut u8,
             out_len: usize,
-        ) -> ListingAnswer;
+        ) -> SizeAnswer;
     }
 }
 
@@ -340,9 +355,33 @@ pub fn read_file(file: &[u8], caps: &mut [u16], places: &mut [u16]) -> FileAnswe
     }
 }
 
+/// Write file: the job file stands at the front of `out`.
+pub fn write_file(
+    caps: &[u16],
+    b: usize,
+    places: &[u16],
+    cards: &[u8],
+    out: &mut [u8],
+) -> SizeAnswer {
+    // SAFETY: as said above.
+    unsafe {
+        c::seineflute_write_file(
+            caps.as_ptr(),
+            caps.len(),
+            b,
+            places.as_ptr(),
+            places.len(),
+            cards.as_ptr(),
+            cards.len(),
+            out.as_mut_ptr(),
+            out.len(),
+        )
+    }
+}
+
 /// Listing: the text stands at the front of `out`. A text that says `refused` is a
 /// text like any other.
-pub fn list_job(file: &[u8], out: &mut [u8]) -> ListingAnswer {
+pub fn list_job(file: &[u8], out: &mut [u8]) -> SizeAnswer {
     // SAFETY: as said above.
     unsafe { c::seineflute_list_job(file.as_ptr(), file.len(), out.as_mut_ptr(), out.len()) }
 }

@@ -1,9 +1,10 @@
 //! The paper cards, cases 1 to 7, 9 and 10, through the safe calls.
 
 use seineflute::{
-    budgeted_moves, check_table, copy_list, list_job, one_move, phase_plan, read_file,
-    shuffle_cards, slot_question, whole_run, Counts, JobFile, Kind, Refusal, Slot, State,
-    COPY_ROOM, FREE, HAND, MAX_FILE, MAX_RACKS, MAX_SLOTS, PLAN_ROOM, TEXT_ROOM,
+    budgeted_moves, check_table, copy_list, file_of, list_job, one_move, phase_plan, raw,
+    read_file, shuffle_cards, slot_question, whole_run, write_file, Counts, JobFile, Kind, Refusal,
+    Slot, State, COPY_ROOM, FREE, HAND, MAX_BYTES, MAX_FILE, MAX_RACKS, MAX_SLOTS, PLAN_ROOM,
+    TEXT_ROOM, WRITE_ROOM,
 };
 
 /// Case 1: capacities, places, cards and the file of 21 bytes.
@@ -74,6 +75,22 @@ fn case_1_reads() {
     assert_eq!(places[..8], PLACES);
     assert!(caps[3..].iter().chain(&places[8..]).all(|&x| x == 9));
     assert_eq!(job.cards.as_ptr(), FILE[13..].as_ptr());
+}
+
+#[test]
+fn case_1_written() {
+    let write = |out: &mut [u8]| write_file(&CAPS, 1, &PLACES, &CARDS, out);
+    let mut long = [7; 23];
+    assert_eq!(write(&mut long), Ok(21));
+    assert_eq!((&long[..21], &long[21..]), (&FILE[..], &[7, 7][..]));
+    let mut exact = [7; 21];
+    assert_eq!(write(&mut exact), Ok(21));
+    assert_eq!(exact, FILE);
+    let mut short = [7; 20];
+    assert_eq!(write(&mut short), Err(Refusal::BufferShort));
+    assert_eq!(short, [7; 20]);
+    assert_eq!(write(&mut []), Err(Refusal::BufferShort));
+    assert_eq!(file_of(&CAPS, 1, &PLACES, &CARDS).unwrap(), FILE);
 }
 
 #[test]
@@ -153,6 +170,9 @@ end: phases 2 moves 5 copies 5
     assert_eq!(refused, Ok(&b"refused 18\n"[..]));
     let refused = list_job(&FILE[..20], &mut out);
     assert_eq!(refused, Ok(&b"refused 15\n"[..]));
+    // Its answer by the name of before 0.3.0.
+    let answer: raw::ListingAnswer = raw::list_job(&FILE, &mut out);
+    assert_eq!(answer.size, TEXT.len());
 }
 
 #[test]
@@ -280,6 +300,62 @@ fn empty_lists() {
     assert_eq!(refused, Err(Refusal::FileEnds));
 }
 
+/// A job read back from its file, and that the file written from it is the same.
+fn round_trip(caps: &[u16], b: usize, places: &[u16], cards: &[u8]) -> usize {
+    let file = file_of(caps, b, places, cards).unwrap();
+    let (mut caps_read, mut places_read) = ([9; MAX_RACKS], [9; MAX_SLOTS]);
+    let job = read_file(&file, &mut caps_read, &mut places_read).unwrap();
+    let (caps_read, places_read) = (&caps_read[..job.racks], &places_read[..job.slots]);
+    assert_eq!((caps_read, job.bytes), (caps, b));
+    assert_eq!((places_read, job.cards), (places, cards));
+    let again = file_of(caps_read, job.bytes, places_read, job.cards).unwrap();
+    assert!(again == file);
+    file.len()
+}
+
+/// Every job may be written, at the start, midway and at the end; the largest has no
+/// limit on its file but its own.
+#[test]
+fn files_come_back() {
+    let (mut places, mut cards) = (PLACES, CARDS);
+    for _ in 0..=5 {
+        assert_eq!(round_trip(&CAPS, 1, &places, &cards), 21);
+        budgeted_moves(&CAPS, 1, &mut places, &mut cards, 1).unwrap();
+    }
+    shuffle_cards(&CAPS, 1, &mut places, &mut cards).unwrap();
+    assert_eq!(round_trip(&CAPS, 1, &places, &cards), 21);
+    assert_eq!(round_trip(&[0], 1, &[FREE], b"z"), 5);
+
+    // Each user slot's card is bound for the user slot across from it.
+    let users: Vec<u16> = (0..4_096).filter(|slot| slot % 64 < 63).collect();
+    let mut places = vec![FREE; MAX_SLOTS];
+    for (&slot, &across) in users.iter().zip(users.iter().rev()) {
+        places[usize::from(slot)] = across;
+    }
+    let cards: Vec<u8> = (0..MAX_SLOTS * MAX_BYTES)
+        .map(|i| (i % 251) as u8)
+        .collect();
+    let length = round_trip(&[63; 64], MAX_BYTES, &places, &cards);
+    // N a byte, B two; a byte a rack; a slot has two, but for 126 cards and 64 spares.
+    let expected = 3 + 64 + 2 * MAX_SLOTS - 126 - 64 + cards.len();
+    assert_eq!(length, expected);
+    assert!(MAX_FILE < length && length <= WRITE_ROOM);
+}
+
+#[test]
+fn files_refused() {
+    let of = |caps: &[u16], b, places: &[u16], cards: &[u8]| file_of(caps, b, places, cards);
+    assert_eq!(of(&[], 1, &[], &[]), Err(Refusal::BadCount));
+    assert_eq!(of(&[1], 0, &[0, FREE], &[]), Err(Refusal::BadBytes));
+    assert_eq!(of(&[1_024], 1, &[], &[]), Err(Refusal::BadSize));
+    assert_eq!(of(&[1], 1, &[0, FREE], b"a"), Err(Refusal::BadLength));
+    assert_eq!(of(&[1], 1, &[1, FREE], b"ab"), Err(Refusal::BadEntry));
+    assert_eq!(of(&[1], 1, &[0, 0], b"ab"), Err(Refusal::NamedTwice));
+    // Lists far longer than any job's.
+    let longer = of(&[0; 70_000], 1, &[FREE; 70_000], &[0; 70_000]);
+    assert_eq!(longer, Err(Refusal::BadCount));
+}
+
 #[test]
 fn refusals_have_their_numbers() {
     for (i, &refusal) in Refusal::ALL.iter().enumerate() {
@@ -287,5 +363,5 @@ fn refusals_have_their_numbers() {
         assert_eq!(Refusal::from_number(i + 1), Some(refusal));
     }
     assert_eq!(Refusal::from_number(0), None);
-    assert_eq!(Refusal::from_number(19), None);
+    assert_eq!(Refusal::from_number(20), None);
 }

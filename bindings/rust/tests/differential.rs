@@ -16,8 +16,8 @@ mod mover;
 mod plain;
 
 use jobs::{Job, Random, Size, FREE};
-use mover::faulty::{Faulty, FAULTS};
-use mover::{Answer, Engine, FileAnswer, ListingAnswer, Mover, Plain, Proved, SlotAnswer};
+use mover::faulty::{Faulty, FAULTS, WRONG_FILES};
+use mover::{Answer, Engine, FileAnswer, Mover, Plain, Proved, SizeAnswer, SlotAnswer};
 use std::fmt::Debug;
 use std::sync::Barrier;
 use std::thread;
@@ -76,16 +76,33 @@ fn every_fault_is_found() {
             inner: Engine,
             fault,
         };
-        let mut compare = Compare::new(&Engine, &faulty);
-        let found = (0..100_000).find_map(|job| {
-            let done = random_job(&mut compare, &mut Random::new(DEFAULT_SEED, job), job);
-            done.err().map(|_| job)
-        });
-        match found {
+        match first_difference(&Engine, &faulty) {
             Some(job) => println!("fault {fault:2}: found by random job {job}"),
             None => panic!("fault {fault} is not found"),
         }
     }
+}
+
+/// Where both movers write the same wrong file, reading it tells.
+#[test]
+fn every_wrong_file_is_found_by_reading_it() {
+    for fault in WRONG_FILES {
+        let faulty = Faulty {
+            inner: Engine,
+            fault,
+        };
+        match first_difference(&faulty, &faulty) {
+            Some(job) => println!("fault {fault:2}: found by reading, random job {job}"),
+            None => panic!("fault {fault} is not found by reading"),
+        }
+    }
+}
+
+/// The first random job on which two movers differ, in a short run.
+fn first_difference(a: &impl Mover, b: &impl Mover) -> Option<u64> {
+    let mut compare = Compare::new(a, b);
+    (0..100_000)
+        .find(|&job| random_job(&mut compare, &mut Random::new(DEFAULT_SEED, job), job).is_err())
 }
 
 fn environment(name: &str) -> Option<u64> {
@@ -147,14 +164,15 @@ enum Row {
     Shuffle,
     WholeRun,
     ReadFile,
+    WriteFile,
     ListJob,
     ListingText,
 }
 
-const NUMBERS: usize = 19;
+const NUMBERS: usize = 20;
 
 /// Each row with the numbers that the rules let it give.
-const ROWS: [(Row, &str, &[usize]); 11] = [
+const ROWS: [(Row, &str, &[usize]); 12] = [
     (Row::CheckTable, "check table", &[0, 1, 3, 4, 5, 6]),
     (Row::SlotQuestion, "slot question", &[0, 1, 3, 4, 5, 6, 7]),
     (Row::PhasePlan, "phase plan", &[0, 1, 3, 4, 5, 6, 13]),
@@ -172,6 +190,7 @@ const ROWS: [(Row, &str, &[usize]); 11] = [
         "read file",
         &[0, 1, 2, 3, 5, 6, 14, 15, 16, 17],
     ),
+    (Row::WriteFile, "write file", &[0, 1, 2, 3, 4, 5, 6, 19]),
     (Row::ListJob, "list job", &[0, 13]),
     (
         Row::ListingText,
@@ -512,11 +531,92 @@ impl<'a, A: Mover, B: Mover> Compare<'a, A, B> {
             self.read_file(file, &caps[..racks - 1], &places[..slots])?;
             self.read_file(file, &caps[..racks], &places[..slots - 1])?;
             self.read_file(file, &caps[..short], &places[..random.below(slots)])?;
+            self.write_what_is_read(file, &caps[..racks], &places[..slots])?;
         }
         Ok(answer)
     }
 
-    fn list_job(&mut self, file: &[u8], room: usize, old: u8) -> Compared<ListingAnswer> {
+    /// The buffer has old contents, of which what is not written must stay.
+    fn write_file(&mut self, job: &Job, old: &[u8]) -> Compared<SizeAnswer> {
+        let (out_a, out_b) = (&mut self.lent_a.out, &mut self.lent_b.out);
+        refill(out_a, old);
+        refill(out_b, old);
+        let (caps, places, cards) = (&job.caps, &job.places, &job.cards);
+        let a = self.a.write_file(caps, job.b, places, cards, out_a);
+        let b = self.b.write_file(caps, job.b, places, cards, out_b);
+        let row = Row::WriteFile;
+        let lent = (caps, job.b, places, cards, old);
+        if a != b {
+            return Err(difference(&row, &lent, "the answer", &a, &b));
+        }
+        if out_a != out_b {
+            return Err(difference(&row, &lent, "the buffer", out_a, out_b));
+        }
+        if out_a[a.size..] != old[a.size..] {
+            return Err(difference(&row, &lent, "what must stay", out_a, &old));
+        }
+        self.seen.add(row, a.number);
+        Ok(a)
+    }
+
+    /// With a buffer that is longer, and an empty one; where the job is accepted, also
+    /// with one that is shorter, one byte too short, and exact, which is read back.
+    fn write_file_calls(&mut self, job: &Job, random: &mut Random) -> Compared<SizeAnswer> {
+        let room = room_of_file(job) + random.below(9);
+        let old = random.bytes(room);
+        let answer = self.write_file(job, &old)?;
+        if answer.number == 19 {
+            return Err(format!("{} bytes are too few for a file", old.len()));
+        }
+        self.write_file(job, &[])?;
+        if answer.number == 0 {
+            let size = answer.size;
+            self.write_file(job, &old[..random.below(size)])?;
+            self.write_file(job, &old[..size - 1])?;
+            self.write_file(job, &old[..size])?;
+            self.read_what_is_written(job)?;
+        }
+        Ok(answer)
+    }
+
+    /// The job that `lent_a` has after a file was read into lists of its lengths.
+    fn job_read(&self, file: &[u8], answer: &FileAnswer) -> Job {
+        Job {
+            caps: self.lent_a.caps.clone(),
+            b: answer.bytes,
+            places: self.lent_a.places.clone(),
+            cards: file[answer.place..].to_vec(),
+        }
+    }
+
+    /// The file that `lent_a` has in an exact buffer is read as the job that was
+    /// written.
+    fn read_what_is_written(&mut self, job: &Job) -> Compared<()> {
+        let file = self.lent_a.out.clone();
+        let (caps, places) = (vec![7; job.caps.len()], vec![7; job.places.len()]);
+        let answer = self.read_file(&file, &caps, &places)?;
+        let read = self.job_read(&file, &answer);
+        if read != *job {
+            let what = "the job that was written";
+            return Err(difference(&Row::ReadFile, &file, what, job, &read));
+        }
+        Ok(())
+    }
+
+    /// A file that is read without refusal, and written again, has the same bytes.
+    fn write_what_is_read(&mut self, file: &[u8], caps: &[u16], places: &[u16]) -> Compared<()> {
+        let answer = self.read_file(file, caps, places)?;
+        let job = self.job_read(file, &answer);
+        let size = self.write_file(&job, &vec![7; file.len()])?.size;
+        let written = &self.lent_a.out[..size];
+        if written != file {
+            let what = "the file that was read";
+            return Err(difference(&Row::WriteFile, &job, what, &file, &written));
+        }
+        Ok(())
+    }
+
+    fn list_job(&mut self, file: &[u8], room: usize, old: u8) -> Compared<SizeAnswer> {
         for lent in [&mut self.lent_a, &mut self.lent_b] {
             lent.out.clear();
             lent.out.resize(room, old);
@@ -552,7 +652,7 @@ impl<'a, A: Mover, B: Mover> Compare<'a, A, B> {
     }
 
     /// With a buffer that is longer, exact, and too short.
-    fn list_job_calls(&mut self, file: &[u8], random: &mut Random) -> Compared<ListingAnswer> {
+    fn list_job_calls(&mut self, file: &[u8], random: &mut Random) -> Compared<SizeAnswer> {
         // Four times as much until it fits: few texts are long.
         let mut room = 128 + 2 * file.len().min(32_768);
         let old = random.next() as u8;
@@ -570,6 +670,12 @@ impl<'a, A: Mover, B: Mover> Compare<'a, A, B> {
         }
         Ok(answer)
     }
+}
+
+/// Bytes that are enough for the file of a job: N takes one, B, a capacity or an entry
+/// two at most.
+fn room_of_file(job: &Job) -> usize {
+    3 + 2 * (job.caps.len() + job.places.len()) + job.cards.len()
 }
 
 /// The number that a listing's text says: 0 where it lists a run.
@@ -671,6 +777,7 @@ fn all_calls<A: Mover, B: Mover>(
     compare.cards_call(CardsCall::BudgetedMoves { k }, job)?;
     compare.cards_call(CardsCall::Shuffle, job)?;
     compare.cards_call(CardsCall::WholeRun, job)?;
+    compare.write_file_calls(job, random)?;
     Ok(())
 }
 
@@ -704,8 +811,9 @@ fn call_sequence<A: Mover, B: Mover>(
     compare.check_table(job)?;
     compare.slot_question(job, random.below(slots))?;
     compare.list_calls(ListCall::CopyList, job, random)?;
+    compare.write_file_calls(job, random)?;
     for _ in 0..random.below(7) {
-        match random.below(8) {
+        match random.below(9) {
             0 => carry_a_plan(compare, random, job)?,
             1..=3 => {
                 compare.cards_call_and_keep(any_move(random, job), job)?;
@@ -720,6 +828,9 @@ fn call_sequence<A: Mover, B: Mover>(
             }
             6 => {
                 compare.cards_call_and_keep(CardsCall::Shuffle, job)?;
+            }
+            7 => {
+                compare.write_file_calls(job, random)?;
             }
             _ => {
                 compare.slot_question(job, random.number(slots))?;
@@ -862,5 +973,8 @@ fn every_call<A: Mover, B: Mover>(compare: &mut Compare<A, B>, job: &Job) -> Com
     let file = jobs::file(job);
     compare.read_file(&file, &OLD[..job.caps.len()], &OLD[..slots])?;
     compare.list_job(&file, 64 * (slots + 2), 0xa5)?;
+    for room in [file.len() + 2, file.len(), file.len() - 1, 0] {
+        compare.write_file(job, &[0xa5; 4 * SMALL + 4][..room])?;
+    }
     Ok(())
 }

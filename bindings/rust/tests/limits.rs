@@ -3,10 +3,17 @@
 use seineflute::raw::{limits, Limits};
 use seineflute::{
     COPY_ROOM, FREE, HAND, MAX_BYTES, MAX_FILE, MAX_RACKS, MAX_SLOTS, MAX_TOTAL, MAX_USERS,
-    PLAN_ROOM, TEXT_ROOM,
+    PLAN_ROOM, TEXT_ROOM, WRITE_ROOM,
 };
 
 const HEADER: &str = include_str!("../../../include/seineflute.h");
+
+/// Room for the file of every job, by the library's limits: N takes a byte, B, a
+/// capacity or an entry at most two.
+fn write_room() -> usize {
+    let l = limits();
+    3 + 2 * (l.racks + l.slots) + l.slots * l.bytes
+}
 
 /// The number that the header gives a name in an enum.
 fn header(name: &str) -> usize {
@@ -40,6 +47,7 @@ fn of_this_crate() {
     assert_eq!(here, limits());
     assert_eq!(PLAN_ROOM, 2 * limits().slots);
     assert_eq!(COPY_ROOM, 3 * limits().slots);
+    assert_eq!(WRITE_ROOM, write_room());
 }
 
 #[test]
@@ -58,4 +66,5 @@ fn of_the_header() {
     assert_eq!(there, limits());
     assert_eq!(header("SEINEFLUTE_PLAN_ROOM"), 2 * limits().slots);
     assert_eq!(header("SEINEFLUTE_COPY_ROOM"), 3 * limits().slots);
+    assert_eq!(header("SEINEFLUTE_WRITE_ROOM"), write_room());
 }

@@ -7,7 +7,7 @@ mod engine;
 mod mover;
 mod plain;
 
-use mover::{Answer, Engine, Mover, Plain, Proved};
+use mover::{Answer, Engine, Mover, Plain, Proved, SizeAnswer};
 
 const F: u16 = 65_535;
 const H: u16 = 65_534;
@@ -37,6 +37,8 @@ fn paper_cards(mover: &impl Mover) {
     slot_answers(mover);
     lowest_slots(mover);
     files(mover);
+    written_files(mover);
+    unwritten_files(mover);
 }
 
 const CAPS_1: [u16; 3] = [2, 2, 1];
@@ -288,4 +290,99 @@ fn files(mover: &impl Mover) {
         text(mover, &[0x01, 0x01, 0x00, 0x00, 0x41]),
         "copies:\ncards: 00\nend: phases 0 moves 0 copies 0\n"
     );
+}
+
+/// Writes a file into buffers that are longer, exact, one byte too short and empty.
+fn written(mover: &impl Mover, caps: &[u16], b: usize, places: &[u16], cards: &[u8], file: &[u8]) {
+    let size = file.len();
+    for room in [size + 3, size, size - 1, 0] {
+        let mut out = vec![0xa5; room];
+        let answer = mover.write_file(caps, b, places, cards, &mut out);
+        let fits = room >= size;
+        let expected = SizeAnswer {
+            number: if fits { 0 } else { 19 },
+            size: if fits { size } else { 0 },
+            ..SizeAnswer::default()
+        };
+        assert_eq!(answer, expected);
+        assert_eq!(out[..answer.size], file[..answer.size]);
+        assert!(out[answer.size..].iter().all(|&byte| byte == 0xa5));
+    }
+}
+
+/// The paper cards that have a file, and case 8's forms at every number.
+fn written_files(mover: &impl Mover) {
+    written(mover, &CAPS_1, 1, &PLACES_1, &CARDS_1, &FILE_1);
+    written(
+        mover,
+        &[2],
+        1,
+        &[1, 0, F],
+        &[7; 3],
+        &[1, 1, 2, 2, 1, 0, 7, 7, 7],
+    );
+    written(mover, &[0], 1, &[F], &[0x41], &[1, 1, 0, 0, 0x41]);
+
+    // B: one group up to 127.
+    for (b, groups) in [
+        (127, &[0x7f][..]),
+        (128, &[0x80, 0x01]),
+        (256, &[0x80, 0x02]),
+    ] {
+        let cards = vec![9; b];
+        let file = [&[1], groups, &[0, 0], &cards].concat();
+        written(mover, &[0], b, &[F], &cards, &file);
+    }
+
+    // A capacity, and the entry of its last user slot, which is the same number.
+    for (m, groups) in [
+        (127, &[0x7f][..]),
+        (128, &[0x80, 0x01]),
+        (1_023, &[0xff, 0x07]),
+    ] {
+        let slots = usize::from(m) + 1;
+        let mut places = vec![F; slots];
+        places[0] = m - 1;
+        let entries = vec![0; slots - 1];
+        let cards = vec![9; slots];
+        let file = [&[1, 1], groups, groups, &entries, &cards].concat();
+        written(mover, &[m], 1, &places, &cards, &file);
+    }
+
+    // The largest entry of all: user slot 4,094.
+    let mut places = vec![F; 4_096];
+    places[0] = 4_094;
+    let cards = vec![9; 4_096];
+    let entries = vec![0; 4_095];
+    let file = [&[64, 1], &[63; 64][..], &[0xff, 0x1f], &entries, &cards].concat();
+    written(mover, &[63; 64], 1, &places, &cards, &file);
+}
+
+/// 1 to 6 come before 19, each before the next.
+fn unwritten_files(mover: &impl Mover) {
+    let number = |caps: &[u16], b, places: &[u16], cards: &[u8]| {
+        let mut out = [0xa5; 40];
+        let answer = mover.write_file(caps, b, places, cards, &mut out);
+        assert_eq!(out, [0xa5; 40]);
+        assert_eq!(mover.write_file(caps, b, places, cards, &mut []), answer);
+        let expected = SizeAnswer {
+            number: answer.number,
+            ..SizeAnswer::default()
+        };
+        assert_eq!(answer, expected);
+        answer.number
+    };
+    assert_eq!(number(&[], 0, &[], &[]), 1);
+    assert_eq!(number(&[0; 65], 1, &[F; 65], &[0; 65]), 1);
+    assert_eq!(number(&[1_024], 0, &[], &[]), 2);
+    assert_eq!(number(&[1], 257, &[0, F], &[0; 514]), 2);
+    assert_eq!(number(&[1_024], 1, &[], &[]), 3);
+    assert_eq!(number(&[1_023, 1_023, 1_023, 964], 1, &[], &[]), 3);
+    assert_eq!(number(&[1], 1, &[1], &[0, 0]), 4);
+    assert_eq!(number(&[1], 1, &[1, 1, F], &[0, 0]), 4);
+    assert_eq!(number(&[1], 1, &[1, 1], &[0]), 4);
+    assert_eq!(number(&[1], 1, &[1, 1], &[0; 3]), 4);
+    assert_eq!(number(&[2], 1, &[0, 0, 2], &[0; 3]), 5);
+    assert_eq!(number(&[1], 1, &[H, F], &[0; 2]), 5);
+    assert_eq!(number(&[1], 1, &[0, 0], &[0; 2]), 6);
 }

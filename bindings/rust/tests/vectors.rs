@@ -1,5 +1,5 @@
 //! The vectors, made by an implementation in another language: every line of
-//! `calls.jsonl` and every pair `shelve/NNNN.in`, `NNNN.out`.
+//! `calls.jsonl` and `q01.jsonl`, and every pair `shelve/NNNN.in`, `NNNN.out`.
 //!
 //! `VECTORS` names another directory of the same shape.
 
@@ -10,7 +10,7 @@ mod mover;
 mod plain;
 
 use json::Value;
-use mover::{Answer, Engine, FileAnswer, ListingAnswer, Mover, Plain, Proved, SlotAnswer};
+use mover::{Answer, Engine, FileAnswer, Mover, Plain, Proved, SizeAnswer, SlotAnswer};
 use std::fs;
 use std::path::PathBuf;
 
@@ -39,33 +39,41 @@ fn vectors() -> PathBuf {
     }
 }
 
+/// The calls of the base, and those of each request that has landed.
+const CALLS: [&str; 2] = ["calls.jsonl", "q01.jsonl"];
+
 fn run_calls(mover: &impl Mover) {
-    let text = fs::read_to_string(vectors().join("calls.jsonl")).expect("calls.jsonl");
+    for name in CALLS {
+        run_lines(mover, name);
+    }
+}
+
+fn run_lines(mover: &impl Mover, name: &str) {
+    let text = fs::read_to_string(vectors().join(name)).expect(name);
     let mut wrong = Vec::new();
     let mut lines = 0;
     for (index, line) in text.lines().enumerate() {
         lines += 1;
-        let vector = Vector {
-            line: index + 1,
-            value: json::parse(line).unwrap_or_else(|error| panic!("line {}: {error}", index + 1)),
-        };
+        let at = format!("{name}, line {}", index + 1);
+        let value = json::parse(line).unwrap_or_else(|error| panic!("{at}: {error}"));
+        let vector = Vector { at, value };
         if let Err(what) = vector.run(mover) {
-            wrong.push(format!("line {}: {what}\n  {line}", index + 1));
+            wrong.push(format!("{}: {what}\n  {line}", vector.at));
         }
     }
-    assert!(lines > 0, "no vectors");
+    assert!(lines > 0, "{name}: no vectors");
     assert!(
         wrong.is_empty(),
-        "{} of {lines} lines differ\n{}",
+        "{name}: {} of {lines} lines differ\n{}",
         wrong.len(),
         wrong.join("\n")
     );
-    println!("{lines} calls agree");
+    println!("{name}: {lines} calls agree");
 }
 
-/// One line of `calls.jsonl`.
+/// One line of a file of calls, and where it stands.
 struct Vector {
-    line: usize,
+    at: String,
     value: Value,
 }
 
@@ -73,26 +81,26 @@ impl Vector {
     fn field(&self, name: &str) -> &Value {
         self.value
             .get(name)
-            .unwrap_or_else(|| panic!("line {}: no {name}", self.line))
+            .unwrap_or_else(|| panic!("{}: no {name}", self.at))
     }
 
     fn expected(&self, name: &str) -> &Value {
         self.field("expect")
             .get(name)
-            .unwrap_or_else(|| panic!("line {}: no expect {name}", self.line))
+            .unwrap_or_else(|| panic!("{}: no expect {name}", self.at))
     }
 
     fn size(&self, value: &Value) -> usize {
         let number = value
             .number()
-            .unwrap_or_else(|| panic!("line {}: not a number", self.line));
+            .unwrap_or_else(|| panic!("{}: not a number", self.at));
         usize::try_from(number).expect("a usize of 64 bits")
     }
 
     fn list(&self, value: &Value) -> Vec<u16> {
         let items = value
             .list()
-            .unwrap_or_else(|| panic!("line {}: not a list", self.line));
+            .unwrap_or_else(|| panic!("{}: not a list", self.at));
         items
             .iter()
             .map(|item| u16::try_from(self.size(item)).expect("16 bits"))
@@ -102,12 +110,8 @@ impl Vector {
     fn bytes(&self, value: &Value) -> Vec<u8> {
         let text = value
             .text()
-            .unwrap_or_else(|| panic!("line {}: not a string", self.line));
-        assert!(
-            text.len().is_multiple_of(2),
-            "line {}: half a byte",
-            self.line
-        );
+            .unwrap_or_else(|| panic!("{}: not a string", self.at));
+        assert!(text.len().is_multiple_of(2), "{}: half a byte", self.at);
         (0..text.len())
             .step_by(2)
             .map(|at| u8::from_str_radix(&text[at..at + 2], 16).expect("hex"))
@@ -152,6 +156,7 @@ impl Vector {
                 self.run_cards(|caps, b, places, cards| mover.whole_run(caps, b, places, cards))
             }
             Some("job file") => self.run_job_file(mover),
+            Some("write file") => self.run_write_file(mover),
             _ => Err("unknown call".to_string()),
         }
     }
@@ -175,13 +180,13 @@ impl Vector {
         let part = |name: &str| {
             self.expected("slot")
                 .get(name)
-                .unwrap_or_else(|| panic!("line {}: no slot {name}", self.line))
+                .unwrap_or_else(|| panic!("{}: no slot {name}", self.at))
         };
         let index = |name: &str, words: &[&str]| {
             words
                 .iter()
                 .position(|&word| part(name).text() == Some(word))
-                .unwrap_or_else(|| panic!("line {}: unknown {name}", self.line))
+                .unwrap_or_else(|| panic!("{}: unknown {name}", self.at))
         };
         let expected = SlotAnswer {
             number,
@@ -247,6 +252,29 @@ impl Vector {
         let part = given.place..given.place + given.slots * given.bytes;
         same("card bytes", &file[part].to_vec(), &expected_bytes)
     }
+
+    fn run_write_file(&self, mover: &impl Mover) -> Result<(), String> {
+        let (caps, places) = self.table();
+        let b = self.size(self.field("B"));
+        let cards = self.bytes(self.field("cards"));
+        let mut out = self.bytes(self.field("buffer"));
+        let given = mover.write_file(&caps, b, &places, &cards, &mut out);
+        let Answer {
+            number,
+            phases,
+            moves,
+            copies,
+        } = self.answer();
+        let expected = SizeAnswer {
+            number,
+            phases,
+            moves,
+            copies,
+            size: self.size(self.expected("length")),
+        };
+        same("answer", &given, &expected)?;
+        same("buffer", &out, &self.bytes(self.expected("buffer")))
+    }
 }
 
 fn same<T: PartialEq + std::fmt::Debug>(what: &str, given: &T, expected: &T) -> Result<(), String> {
@@ -285,13 +313,13 @@ fn run_shelve(mover: &impl Mover) {
 /// The listing into a buffer that is longer, exact, and one byte too short.
 fn run_listing(mover: &impl Mover, file: &[u8], expected: &[u8]) -> Result<(), String> {
     const OLD: u8 = 0xa5;
-    let fits = ListingAnswer {
+    let fits = SizeAnswer {
         size: expected.len(),
-        ..ListingAnswer::default()
+        ..SizeAnswer::default()
     };
-    let too_short = ListingAnswer {
+    let too_short = SizeAnswer {
         number: 13,
-        ..ListingAnswer::default()
+        ..SizeAnswer::default()
     };
     for (length, answer) in [
         (expected.len() + 9, fits),

@@ -62,3 +62,9 @@ impl Answer {
         Answer { number: 0, tally }
     }
 }
+
+// What a call gives that writes bytes into a lent buffer: the number, and how many bytes it wrote.
+pub struct SizeAnswer {
+    pub answer: Answer,
+    pub size: usize,
+}

@@ -32,6 +32,7 @@ use Rattle.jobfile.specs.declared.JobFile.{JobFile}
 use Rattle.texts.specs.Lines.{refusedLine, phaseLine, phaseLines, copiesLine}
 use Rattle.texts.proofs.Spelling.{refused-one}
 use Rattle.runtexts.specs.RunText.{runText}
+use Rattle.jobwriter.specs.Writing.{writeChecks, filed}
 use Rattle.listing.specs.Listing.{fileHeld, programChecks, listing, handedOver, printed}
 use Rattle.demands.specs.Accepted.{Accepted}
 use Rattle.demands.specs.Rows.{None, Holds, Given, _then_}
@@ -131,7 +132,7 @@ unfolding first ahead read readChecks fileChecks readN numerals numeral groups l
 behind reader caps places l = rw (drop-of-length-le (now (reader .file)) {i = reader .at} l)
 
 pub demand1 : Demand1
-unfolding checked slotChecks asked planChecks planned moveChecks moved budgeted copyChecks copied shuffleChecks shuffled ran ahead handedOver printed
+unfolding checked slotChecks asked planChecks planned moveChecks moved budgeted copyChecks copied shuffleChecks shuffled ran ahead writeChecks filed handedOver printed
 demand1 =
     record {
       check-table = given-table-only;
@@ -144,6 +145,7 @@ demand1 =
       shuffle-cards = λ racks b h. given-cards racks (h .places) _ _ (given-row _ (λ e. omega arith) (says-12 racks (h .places)) given-none) b (h .cards);
       whole-run = λ racks b h. given-cards-only racks (h .places) b (h .cards);
       read-file = given-read;
+      write-file = λ racks b places cards lent. given-cards racks places _ _ (given-row _ (λ e. omega arith) (says-13 lent _) given-none) b cards;
       read-job = given-job;
       from-start = λ reader z. ap (λ (at : ℕ). drop at (now (reader .file))) z;
       behind-end = behind;

@@ -21,3 +21,4 @@ pub mod Figure1Run
 pub mod Runs
 pub mod Demand2
 pub mod Homes
+pub mod RoundTrip

@@ -16,12 +16,13 @@ use Rattle.shuffle.proofs.One.{shuffle-cards-one}
 use Rattle.runs.proofs.One.{whole-run-one}
 use Rattle.parsing.specs.declared.FileAnswer.{FileAnswer}
 use Rattle.jobfile.proofs.One.{read-file-one, rest-of-one, card-bytes-one, step-at-one, new-one, next-one, read-job-one}
-use Rattle.texts.specs.declared.TextAnswer.{TextAnswer}
+use Rattle.answers.specs.declared.SizeAnswer.{SizeAnswer}
+use Rattle.jobwriter.proofs.One.{write-file-one}
 use Rattle.listing.proofs.One.{list-job-one}
-use Rattle.flat.specs.Flat.{answerOf, fileOf, textOf}
+use Rattle.flat.specs.Flat.{answerOf, fileOf, sizeOf}
 use Rattle.flat.specs.declared.Answer as c
 use Rattle.flat.specs.declared.FileAnswer as c-file
-use Rattle.flat.specs.declared.ListingAnswer as c-text
+use Rattle.flat.specs.declared.SizeAnswer as c-size
 use Rattle.demands.specs.OneOutcome.{OneOutcome}
 
 -- the numbers that C is given, read back from an answer
@@ -58,10 +59,10 @@ c-filed =
       y .2,
     )) (λ x. refl)
 
-c-texted : {allowed : TextAnswer × List ℕ → Type 0} → One allowed → One (λ ((r, lent) : c-text.ListingAnswer × List ℕ). allowed (textOf r, lent))
-c-texted =
-    one-by (λ (x : c-text.ListingAnswer × List ℕ). (textOf (x .0), x .1))
-    (λ (y : TextAnswer × List ℕ). (
+c-sized : {allowed : SizeAnswer × List ℕ → Type 0} → One allowed → One (λ ((r, lent) : c-size.SizeAnswer × List ℕ). allowed (sizeOf r, lent))
+c-sized =
+    one-by (λ (x : c-size.SizeAnswer × List ℕ). (sizeOf (x .0), x .1))
+    (λ (y : SizeAnswer × List ℕ). (
       record {
         number = y .0 .answer .number;
         phases = y .0 .answer .tally .phases;
@@ -84,6 +85,7 @@ one-outcome =
       shuffle-cards = shuffle-cards-one;
       whole-run = whole-run-one;
       read-file = read-file-one;
+      write-file = write-file-one;
       list-job = list-job-one;
       rest-of = rest-of-one;
       card-bytes = card-bytes-one;
@@ -106,6 +108,7 @@ one-outcome =
       c-shuffle-cards = λ caps b places cards. c-carded (shuffle-cards-one caps b places cards);
       c-whole-run = λ caps b places cards. c-carded (whole-run-one caps b places cards);
       c-read-file = λ file caps places. c-filed (read-file-one file caps places);
-      c-list-job = λ file lent. c-texted (list-job-one file lent);
+      c-write-file = λ caps b places cards lent. c-sized (write-file-one caps b places cards lent);
+      c-list-job = λ file lent. c-sized (list-job-one file lent);
       c-limits = one-is _;
     }

@@ -23,6 +23,7 @@ use Rattle.jobfile.specs.Reading.{placeAfter, Stepped, Next, ahead, JobRead}
 use Rattle.jobfile.specs.declared.Reader.{Reader}
 use Rattle.jobfile.specs.declared.Step.{Step}
 use Rattle.jobfile.specs.declared.JobFile.{JobFile}
+use Rattle.jobwriter.specs.Writing.{filed}
 use Rattle.listing.specs.Listing.{handedOver, printed}
 use Rattle.jobfile.specs.Reading.{jobSeen}
 use Rattle.demands.specs.Demand1.{refusedWith, Refusals}
@@ -66,7 +67,7 @@ refused-next before after x n s f z =
     (r .0, s .file-is, s .at-is ∙ r .1)
 
 pub refusals : Refusals
-unfolding checked asked planned moved budgeted copied shuffled ran handedOver printed
+unfolding checked asked planned moved budgeted copied shuffled ran filed handedOver printed
 refusals =
     record {
       check-table = λ racks places n f e. rw (e, ne-eqb n 0 f);
@@ -78,6 +79,7 @@ refusals =
       shuffle-cards = λ racks b h n f e. rw (e, ne-eqb n 0 f);
       whole-run = λ racks b h n f e. rw (e, ne-eqb n 0 f);
       read-file = refused-read;
+      write-file = λ racks b places cards lent n f e. rw (e, ne-eqb n 0 f);
       read-job = refused-job;
       step-at = refused-step;
       next = refused-next;

@@ -65,7 +65,7 @@ TargetTaken places to = dest places to ≢ 65535
 abbrev pub CardAway : List Rack → List ℕ → Type 0
 CardAway racks places = (g : ℕ) × (g < slots racks) × ((dest places g ≢ 65535) × (rackOf racks g ≢ rackOf racks (dest places g)))
 
--- 13: the lent list is too short for what would be written
+-- 13, and 19 of the writer: the lent list is too short for what would be written
 abbrev pub TooShort : List ℕ → List ℕ → Type 0
 TooShort lent out = length lent < length out
 

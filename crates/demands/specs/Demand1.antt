@@ -27,6 +27,7 @@ use Rattle.jobfile.specs.Reading.{Stepped, Next, ahead, JobRead}
 use Rattle.jobfile.specs.declared.Reader.{Reader}
 use Rattle.jobfile.specs.declared.Step.{Step}
 use Rattle.jobfile.specs.declared.JobFile.{JobFile}
+use Rattle.jobwriter.specs.Writing.{fileFor, filed}
 use Rattle.texts.specs.Lines.{refusedLine}
 use Rattle.runtexts.specs.RunText.{runText}
 use Rattle.listing.specs.Listing.{fileHeld, listing, printed}
@@ -54,6 +55,8 @@ pub record Demand1 : Type 0 where
   pub whole-run : (racks : List Rack) (b : ℕ) (h : Held) → Given (ran racks b h .answer .number) (cardRows racks b (h .places) (h .cards))
   pub read-file : (file caps places : List ℕ)
       → Given (read file caps places .answer .number) (fileRows file then (17, NoRoom file caps places) ∷ [])
+  pub write-file : (racks : List Rack) (b : ℕ) (places cards lent : List ℕ)
+      → Given (filed racks b places cards lent .answer .number) (cardRows racks b places cards then (19, TooShort lent (fileFor racks b places cards)) ∷ [])
   -- a job is read from the reader's place on: the whole file from the start, and 15 where the place lies behind the end
   pub read-job : (reader : Reader) (caps places : List ℕ) (job : JobFile) (caps′ places′ : List ℕ) → JobRead reader caps places job caps′ places′
       → Given (job .answer .number) (fileRows (ahead reader) then (17, NoRoom (ahead reader) caps places) ∷ [])
@@ -106,6 +109,8 @@ pub record Refusals : Type 0 where
   pub read-file : (file caps places : List ℕ) (n : ℕ) → n ≢ 0 → read file caps places .answer .number ≡ n
       → read file caps places
       ≡ record { answer = refusedWith n; racks = 0; bytes = 0; slots = 0; caps = caps; places = places; place = 0; cards = [] }
+  pub write-file : (racks : List Rack) (b : ℕ) (places cards lent : List ℕ) (n : ℕ) → n ≢ 0 → filed racks b places cards lent .answer .number ≡ n
+      → filed racks b places cards lent ≡ record { answer = refusedWith n; size = 0; lent = lent }
   pub read-job : (reader : Reader) (caps places : List ℕ) (job : JobFile) (caps′ places′ : List ℕ) (n : ℕ) → JobRead reader caps places job caps′ places′ → n ≢ 0
       → job .answer .number ≡ n → jobSeen (job, caps′, places′) ≡ (refusedWith n, 0, 0, 0, 0, [], caps, places)
   -- a numeral that is refused leaves the place where it was

@@ -22,12 +22,13 @@ use Rattle.parsing.specs.declared.FileAnswer.{FileAnswer}
 use Rattle.jobfile.specs.Reading.{Stepped, New, Next, JobRead, jobSeen}
 use Rattle.jobfile.specs.declared.Reader.{Reader}
 use Rattle.jobfile.specs.declared.JobFile.{JobFile}
+use Rattle.jobwriter.specs.Writing.{WriteFile}
 use Rattle.listing.specs.Listing.{ListJob}
-use Rattle.texts.specs.declared.TextAnswer.{TextAnswer}
-use Rattle.flat.specs.Flat.{answerOf, fileOf, textOf}
+use Rattle.answers.specs.declared.SizeAnswer.{SizeAnswer}
+use Rattle.flat.specs.Flat.{answerOf, fileOf, sizeOf}
 use Rattle.flat.specs.declared.Answer as c
 use Rattle.flat.specs.declared.FileAnswer as c-file
-use Rattle.flat.specs.declared.ListingAnswer as c-text
+use Rattle.flat.specs.declared.SizeAnswer as c-size
 use Rattle.seineflute.specs.Contracts.{LimitsGiven, SlotNumbers}
 
 pub record OneOutcome : Type 0 where
@@ -45,7 +46,9 @@ pub record OneOutcome : Type 0 where
       → One (λ ((r, places′, cards′) : Answer × List ℕ × List ℕ). WholeRun caps b (held places cards) (outcomeOf r places′ cards′))
   pub read-file : (file caps places : List ℕ)
       → One (λ ((r, caps′, places′) : FileAnswer × List ℕ × List ℕ). ReadFile file caps places r caps′ places′)
-  pub list-job : (file lent : List ℕ) → One (λ ((r, lent′) : TextAnswer × List ℕ). ListJob file lent r lent′)
+  pub write-file : (caps : List ℕ) (b : ℕ) (places cards lent : List ℕ)
+      → One (λ ((r, lent′) : SizeAnswer × List ℕ). WriteFile caps b places cards lent r lent′)
+  pub list-job : (file lent : List ℕ) → One (λ ((r, lent′) : SizeAnswer × List ℕ). ListJob file lent r lent′)
   -- the reader that remembers its place; a part of the file is known by its bytes
   pub rest-of : (file : List ℕ) (at : ℕ) → OneSeen now (λ (r : RefT (List ℕ)). RestOf file at (now r))
   pub card-bytes : (file : List ℕ) (found : FileAnswer) → OneSeen now (λ (r : RefT (List ℕ)). CardBytes file found (now r))
@@ -78,5 +81,7 @@ pub record OneOutcome : Type 0 where
       → One (λ ((r, places′, cards′) : c.Answer × List ℕ × List ℕ). WholeRun caps b (held places cards) (outcomeOf (answerOf r) places′ cards′))
   pub c-read-file : (file caps places : List ℕ)
       → One (λ ((r, caps′, places′) : c-file.FileAnswer × List ℕ × List ℕ). ReadFile file caps places (fileOf r) caps′ places′)
-  pub c-list-job : (file lent : List ℕ) → One (λ ((r, lent′) : c-text.ListingAnswer × List ℕ). ListJob file lent (textOf r) lent′)
+  pub c-write-file : (caps : List ℕ) (b : ℕ) (places cards lent : List ℕ)
+      → One (λ ((r, lent′) : c-size.SizeAnswer × List ℕ). WriteFile caps b places cards lent (sizeOf r) lent′)
+  pub c-list-job : (file lent : List ℕ) → One (λ ((r, lent′) : c-size.SizeAnswer × List ℕ). ListJob file lent (sizeOf r) lent′)
   pub c-limits : One LimitsGiven

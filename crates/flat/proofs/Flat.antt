@@ -11,11 +11,11 @@ use Rattle.slots.specs.declared.SlotAnswer as slots
 use Rattle.flat.specs.declared.Answer.{Answer}
 use Rattle.flat.specs.declared.SlotAnswer.{SlotAnswer}
 use Rattle.flat.specs.declared.FileAnswer.{FileAnswer}
-use Rattle.flat.specs.declared.ListingAnswer.{ListingAnswer}
+use Rattle.flat.specs.declared.SizeAnswer.{SizeAnswer}
 use Rattle.answers.specs.declared.Answer as layers
 use Rattle.parsing.specs.declared.FileAnswer as jobfile
-use Rattle.texts.specs.declared.TextAnswer as texts
-use Rattle.flat.specs.Flat.{answerOf, kindNumber, stateNumber, rackNumber, slotNumbers, fileOf, textOf}
+use Rattle.answers.specs.declared.SizeAnswer as sizes
+use Rattle.flat.specs.Flat.{answerOf, kindNumber, stateNumber, rackNumber, slotNumbers, fileOf, sizeOf}
 
 -- two answers of four numbers that are one answer of the layers are equal
 pub answer-same : (a b : Answer) → answerOf a ≡ answerOf b → a ≡ b
@@ -37,9 +37,9 @@ file-same a b e =
     }) e
 
 -- two answers of five numbers that are one answer of the listing are equal
-pub text-same : (a b : ListingAnswer) → textOf a ≡ textOf b → a ≡ b
-text-same a b e =
-    ap (λ (x : texts.TextAnswer).
+pub size-same : (a b : SizeAnswer) → sizeOf a ≡ sizeOf b → a ≡ b
+size-same a b e =
+    ap (λ (x : sizes.SizeAnswer).
     record {
       number = x .answer .number;
       phases = x .answer .tally .phases;

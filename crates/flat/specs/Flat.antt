@@ -7,11 +7,11 @@ use Rattle.slots.specs.declared.State.{State}
 use Rattle.slots.specs.declared.State.the-variants as state
 use Rattle.slots.specs.declared.SlotAnswer as slots
 use Rattle.parsing.specs.declared.FileAnswer as jobfile
-use Rattle.texts.specs.declared.TextAnswer as texts
+use Rattle.answers.specs.declared.SizeAnswer as sizes
 use Rattle.flat.specs.declared.Answer.{Answer}
 use Rattle.flat.specs.declared.SlotAnswer.{SlotAnswer}
 use Rattle.flat.specs.declared.FileAnswer.{FileAnswer}
-use Rattle.flat.specs.declared.ListingAnswer.{ListingAnswer}
+use Rattle.flat.specs.declared.SizeAnswer.{SizeAnswer}
 
 -- the answer that four numbers are
 abbrev pub answerOf : Answer → layers.Answer
@@ -63,9 +63,9 @@ fileOf r =
       place = r .place;
     }
 
--- the listing's answer that five numbers are
-abbrev pub textOf : ListingAnswer → texts.TextAnswer
-textOf r =
+-- the answer of a call that writes bytes, which five numbers are
+abbrev pub sizeOf : SizeAnswer → sizes.SizeAnswer
+sizeOf r =
     record {
       answer = record { number = r .number; tally = record { phases = r .phases; moves = r .moves; copies = r .copies } };
       size = r .size;

@@ -35,9 +35,9 @@ pub struct FileAnswer {
     pub place: usize,
 }
 
-// What the listing gives: the number, and how many bytes the text has; 0 on a refusal.
+// What a call gives that writes bytes into a lent buffer: the number, and how many bytes it wrote; 0 on a refusal.
 #[repr(C)]
-pub struct ListingAnswer {
+pub struct SizeAnswer {
     pub number: usize,
     pub phases: usize,
     pub moves: usize,

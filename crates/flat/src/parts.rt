@@ -1,9 +1,9 @@
 // The layers' answers as plain numbers.
 ghost use mathlib.Core.Path.{_≡_};
-ghost use Rattle.flat.specs.Flat.{answerOf, kindNumber, stateNumber, rackNumber, slotNumbers, fileOf, textOf};
+ghost use Rattle.flat.specs.Flat.{answerOf, kindNumber, stateNumber, rackNumber, slotNumbers, fileOf, sizeOf};
 use crate::Answer;
 use crate::FileAnswer;
-use crate::ListingAnswer;
+use crate::SizeAnswer;
 use crate::SlotAnswer;
 use slots::Kind;
 use slots::State;
@@ -91,11 +91,11 @@ pub fn file_numbers(found: parsing::FileAnswer) -> FileAnswer
     }
 }
 
-// The listing's answer.
-pub fn text_numbers(found: texts::TextAnswer) -> ListingAnswer
-    ensures { λ r. ⌜ textOf r ≡ found ⌝ }
+// The answer of a call that writes bytes.
+pub fn size_numbers(found: answers::SizeAnswer) -> SizeAnswer
+    ensures { λ r. ⌜ sizeOf r ≡ found ⌝ }
 {
-    ListingAnswer {
+    SizeAnswer {
         number: found.answer.number as usize,
         phases: found.answer.tally.phases,
         moves: found.answer.tally.moves,

@@ -1,7 +1,6 @@
 // Job files run and compared: the arguments name a job file and the text that it must give, and so on; prints a line for each.
 ghost use Rattle.io.specs.Counts.{Counts};
 use libc::STDOUT_FILENO;
-use texts::TextAnswer;
 
 // The file that argument i names, at the front of the buffer; gives how many bytes of it are there.
 fn read_named(i: usize, buffer: &mut [u8]) -> usize
@@ -23,16 +22,16 @@ fn is_named(text: &[u8], size: usize, i: usize) -> bool {
     if text.len() < size {
         return false;
     }
-    let mut expected = [0u8; TextAnswer::ENOUGH];
+    let mut expected = [0u8; texts::ENOUGH];
     let n = read_named(i, &mut expected);
     check::same(&text[..size], &expected[..n])
 }
 
 // Whether the job file that argument i names gives the text that argument j names.
 fn gives(i: usize, j: usize) -> bool {
-    let mut file = [0u8; TextAnswer::FILE + 1];
+    let mut file = [0u8; texts::FILE + 1];
     let n = read_named(i, &mut file);
-    let mut text = [0u8; TextAnswer::ENOUGH];
+    let mut text = [0u8; texts::ENOUGH];
     let listed = listing::list_job(&file[..n], &mut text);
     is_named(&text, listed.size, j)
 }

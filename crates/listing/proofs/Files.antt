@@ -12,7 +12,7 @@ use Rattle.counting.specs.Checks.{first}
 use Rattle.counting.proofs.Checks.{first-here, first-later, first-off, first-none}
 use Rattle.racks.specs.Racks.{ofCaps, slots}
 use Rattle.racks.specs.Numbers.{cardChecks, tooShort}
-use Rattle.answers.specs.Answers.{answer, noCounts}
+use Rattle.answers.specs.Answers.{answer, noCounts, Sized, sizedOf}
 use Rattle.racks.proofs.LegalTable.{spared-caps}
 use Rattle.moves.specs.Moves.{held}
 use Rattle.counting.proofs.Stores.{take-front}
@@ -26,9 +26,9 @@ use Rattle.parsing.proofs.Legal.{file-legal, file-small}
 use Rattle.parsing.proofs.Files.{answer-number}
 use Rattle.texts.specs.Lines.{refusedLine}
 use Rattle.runtexts.specs.RunText.{FILE, runText}
-use Rattle.listing.specs.Listing.{ENOUGH, programChecks, fileHeld, listing, handedOver, Printed, printedOf, printed}
+use Rattle.listing.specs.Listing.{ENOUGH, programChecks, fileHeld, listing, handedOver, printed}
 use Rattle.texts.specs.parts.Writing.{Room}
-use Rattle.texts.specs.declared.TextAnswer.{TextAnswer}
+use Rattle.answers.specs.declared.SizeAnswer.{SizeAnswer}
 use Rattle.texts.proofs.Lines.{refused-small}
 use Rattle.listing.proofs.Refusals.{number-most}
 use Rattle.listing.proofs.Enough.{run-enough}
@@ -88,12 +88,11 @@ module _ (file : List ℕ) where
       rw (first-later (ltb (length lent) (length (listing file))) 13 [] (le-ltb (length lent) (length (listing file)) s) ∙ first-none)
 
   -- which stands before `size` in the buffer at exit
-  pub text-front : (lent lent′ : List ℕ) (r : TextAnswer) → ENOUGH ≤ length lent → printedOf r lent′ ≡ printed file lent → (take (r .size) lent′ ≡ listing file) × (r .size ≤ length lent′)
-  unfolding printedOf
+  pub text-front : (lent lent′ : List ℕ) (r : SizeAnswer) → ENOUGH ≤ length lent → sizedOf r lent′ ≡ printed file lent → (take (r .size) lent′ ≡ listing file) × (r .size ≤ length lent′)
   text-front lent lent′ r h e =
       let q = e ∙ printed-enough lent h in
-      let size : r .size ≡ length (listing file) = ap (λ (x : Printed). x .size) q in
-      let buffer : lent′ ≡ sets lent 0 (listing file) = ap (λ (x : Printed). x .lent) q in
+      let size : r .size ≡ length (listing file) = ap (λ (x : Sized). x .size) q in
+      let buffer : lent′ ≡ sets lent 0 (listing file) = ap (λ (x : Sized). x .lent) q in
       let fits : length (listing file) ≤ length lent = omega (arith, listing-enough) in
       (rw (size, buffer) (take-front lent (listing file) (length (listing file)) refl fits), omega (arith, size, ap length buffer, length-sets lent 0 (listing file)))
 

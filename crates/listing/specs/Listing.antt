@@ -7,13 +7,12 @@ use lib.ListN.{length}
 use Rattle.counting.specs.Tests.{pick}
 use Rattle.counting.specs.Checks.{Check, first, done}
 use Rattle.racks.specs.Numbers.{tooShort}
-use Rattle.answers.specs.Answers.{answer, noCounts, written}
-use Rattle.answers.specs.declared.Answer.{Answer}
+use Rattle.answers.specs.Answers.{Sized, sized, sizedOf}
+use Rattle.answers.specs.declared.SizeAnswer.{SizeAnswer}
 use Rattle.moves.specs.Moves.{Held}
 use Rattle.parsing.specs.File.{fileRacks, fileBytes, filePlaces, fileCards, fileChecks}
 use Rattle.texts.specs.Lines.{refusedLine}
 use Rattle.runtexts.specs.RunText.{FILE, runText}
-use Rattle.texts.specs.declared.TextAnswer.{TextAnswer}
 
 -- the program looks at 18 before all else; its own lists have room for every job, so there is no 17
 unfoldable pub programChecks : List ℕ → List Check
@@ -34,26 +33,14 @@ listing file =
 abbrev pub ENOUGH : ℕ
 ENOUGH = 245818
 
--- the outcome of listing into a lent buffer: the number, how many bytes the text has, and the buffer at exit
-pub record Printed : Type 0 where
-  pub answer : Answer
-  pub size : ℕ
-  pub lent : List ℕ
-
--- what the call gives, and the buffer that it leaves
-unfoldable pub printedOf : TextAnswer → List ℕ → Printed
-printedOf r lent = record { answer = r .answer; size = r .size; lent = lent }
-
 -- a text put into a lent buffer; 13 where that is too short for it
-unfoldable pub handedOver : List ℕ → List ℕ → Printed
-handedOver out lent =
-    let n = first ((tooShort lent out, 13) ∷ []) in
-    record { answer = answer n noCounts; size = pick (done n) (length out) 0; lent = written n lent out }
+unfoldable pub handedOver : List ℕ → List ℕ → Sized
+handedOver out lent = sized (first ((tooShort lent out, 13) ∷ [])) out lent
 
 -- **The listing as a call.** A text that says `refused` is written like any other
-unfoldable pub printed : List ℕ → List ℕ → Printed
+unfoldable pub printed : List ℕ → List ℕ → Sized
 printed file lent = handedOver (listing file) lent
 
 -- the contract of `list_job`: what it gives, and the lent buffer at exit
-abbrev pub ListJob : List ℕ → List ℕ → TextAnswer → List ℕ → Type 0
-ListJob file lent r lent′ = printedOf r lent′ ≡ printed file lent
+abbrev pub ListJob : List ℕ → List ℕ → SizeAnswer → List ℕ → Type 0
+ListJob file lent r lent′ = sizedOf r lent′ ≡ printed file lent

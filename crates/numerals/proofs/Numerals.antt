@@ -118,7 +118,7 @@ module _ (file : List ℕ) (at : ℕ) where
 
   module _ (bad : List ℕ → ℕ → ℕ) (left : ℕ) (before : List ℕ) where
     -- one numeral more, by what it gives
-    numerals-on : (v p : ℕ) → got v p ≡ numeral file at → bad before v ≡ 0 → numerals bad (suc left) file at before ≡ numerals bad left file p (before ++ v ∷ [])
+    pub numerals-on : (v p : ℕ) → got v p ≡ numeral file at → bad before v ≡ 0 → numerals bad (suc left) file at before ≡ numerals bad left file p (before ++ v ∷ [])
     unfolding numerals
     numerals-on v p e z = rw (← e, either-r (bad before v), z)
 

@@ -26,7 +26,8 @@ use Rattle.numerals.proofs.Numerals.{got, reading, passed-good, refused-by, num
 
 -- capacities that are in order so far
 module _ (caps : List ℕ) (good : badSize (ofCaps caps) ≡ false) where
-  size-users : (p : ℕ) → p < length caps → users (ofCaps caps) p ≤ 1023
+  -- each is at most 1,023
+  pub size-users : (p : ℕ) → p < length caps → users (ofCaps caps) p ≤ 1023
   unfolding badSize tooLarge
   size-users p l = ltb-false 1023 (users (ofCaps caps) p) (some-off (length (ofCaps caps)) (tooLarge (ofCaps caps)) (or-off-l _ good) p (omega (arith, length-caps caps)))
 

@@ -29,13 +29,16 @@ use Rattle.parsing.proofs.Entries.{wrong-file, wrong-same}
 
 -- numerals that are not refused
 module _ (bad : List ℕ → ℕ → ℕ) (file : List ℕ) where
-  one-more : (n at : ℕ) (before : List ℕ) → numerals bad (suc n) file at before .number ≡ 0
-      → (numerals bad (suc n) file at before ≡ numerals bad n file (numeral file at .place) (before ++ numeral file at .value ∷ [])) × (bad before (numeral file at .value) ≡ 0)
+  -- one is read, and passes, and then the others
+  pub one-more : (n at : ℕ) (before : List ℕ) → numerals bad (suc n) file at before .number ≡ 0
+      → (numerals bad (suc n) file at before ≡ numerals bad n file (numeral file at .place) (before ++ numeral file at .value ∷ []))
+      × (numeral file at .number ≡ 0)
+      × (bad before (numeral file at .value) ≡ 0)
   unfolding numerals
   one-more n at before z =
       let no-0 = either (numeral file at .number) (bad before (numeral file at .value)) in
       by-test (done no-0)
-      (λ t. (rw t, either-0 (numeral file at .number) (bad before (numeral file at .value)) (eqb-true no-0 0 t) .1))
+      (λ t. let q = either-0 (numeral file at .number) (bad before (numeral file at .value)) (eqb-true no-0 0 t) in (rw t, q .0, q .1))
       (λ t. absurd (eqb-false no-0 0 t (rw t at z)))
 
   -- what one numeral more keeps, all keep
@@ -45,10 +48,10 @@ module _ (bad : List ℕ → ℕ → ℕ) (file : List ℕ) where
   numerals-keep P step (suc n) at before p z =
       let o = one-more n at before z in
       subst (λ (r : Numerals). P (r .values)) (sym (o .0))
-      (numerals-keep P step n (numeral file at .place) (before ++ numeral file at .value ∷ []) (step before (numeral file at .value) (o .1) p) (sym (ap (λ (r : Numerals). r .number) (o .0)) ∙ z))
+      (numerals-keep P step n (numeral file at .place) (before ++ numeral file at .value ∷ []) (step before (numeral file at .value) (o .2) p) (sym (ap (λ (r : Numerals). r .number) (o .0)) ∙ z))
 
   -- there are n of them
-  numerals-length : (n at : ℕ) (before : List ℕ) → numerals bad n file at before .number ≡ 0 → length (numerals bad n file at before .values) ≡ n + length before
+  pub numerals-length : (n at : ℕ) (before : List ℕ) → numerals bad n file at before .number ≡ 0 → length (numerals bad n file at before .values) ≡ n + length before
   numerals-length zero at before z = unfold numerals in omega arith
   numerals-length (suc n) at before z =
       let o = one-more n at before z in
@@ -78,7 +81,7 @@ one-off : (b : Bool) (n : ℕ) → (n ≡ 0 → ⊥) → first ((b, n) ∷ []) �
 one-off b n f z = first-off b n [] f z .0
 
 -- a file that is not refused, check by check
-record Accepted (file : List ℕ) : Type 0 where
+pub record Accepted (file : List ℕ) : Type 0 where
   pub N-read : readN file .number ≡ 0
   pub B-read : readB file .number ≡ 0
   pub M-read : readM file .number ≡ 0
@@ -86,7 +89,7 @@ record Accepted (file : List ℕ) : Type 0 where
   pub once : badTwice (filePlaces file) ≡ false
   pub bytes : length (fileCards file) ≡ slots (fileRacks file) * fileBytes file
 
-accepted : (file : List ℕ) → first (fileChecks file) ≡ 0 → Accepted file
+pub accepted : (file : List ℕ) → first (fileChecks file) ≡ 0 → Accepted file
 unfolding fileChecks
 accepted file z =
     let n = refusal-0 _ _ z in
@@ -110,7 +113,7 @@ accepted file z =
 
 module _ (file : List ℕ) (a : Accepted file) where
   -- N is the number of racks
-  racks-N : length (fileRacks file) ≡ getD (readN file .values) 0 0
+  pub racks-N : length (fileRacks file) ≡ getD (readN file .values) 0 0
   unfolding fileRacks readM
   racks-N = length-caps (readM file .values) ∙ numerals-length wrongM file (getD (readN file .values) 0 0) (readB file .place) [] (a .M-read) ∙ omega arith
 
@@ -133,7 +136,8 @@ module _ (file : List ℕ) (a : Accepted file) where
   unfolding fileRacks
   small = slots-small (readM file .values) (sym (checks-0 (fileRacks file) count-ok size-ok))
 
-  entries-length : length (readEntries file .values) ≡ slots (fileRacks file)
+  -- S entries
+  pub entries-length : length (readEntries file .values) ≡ slots (fileRacks file)
   unfolding readEntries
   entries-length = numerals-length (wrongEntry (fileRacks file)) file (slots (fileRacks file)) (readM file .place) [] (a .entries-read) ∙ omega arith
 
@@ -141,13 +145,15 @@ module _ (file : List ℕ) (a : Accepted file) where
   unfolding filePlaces
   places-length = length-each entryOf (readEntries file .values) ∙ entries-length
 
-  entry-right : (g : ℕ) → g < slots (fileRacks file) → wrong-file (fileRacks file) (getD (readEntries file .values) g 0) ≡ false
+  -- each passes 5
+  pub entry-right : (g : ℕ) → g < slots (fileRacks file) → wrong-file (fileRacks file) (getD (readEntries file .values) g 0) ≡ false
   unfolding readEntries wrongEntry
   entry-right g l =
       numerals-each (wrongEntry (fileRacks file)) file (λ x. wrong-file (fileRacks file) x ≡ false) (λ b x e. one-off _ 5 (λ q. omega arith) e)
       (slots (fileRacks file)) (readM file .place) (a .entries-read) g (omega (arith, entries-length))
 
-  entry-small : (x : ℕ) → wrong-file (fileRacks file) x ≡ false → x ≤ 4096
+  -- and so is at most 4,096
+  pub entry-small : (x : ℕ) → wrong-file (fileRacks file) x ≡ false → x ≤ 4096
   entry-small x w = elim (ℕ-discrete x 0) [
     | yes e ↦ omega arith
     | no f ↦ by-test (isUser (fileRacks file) (x - 1))

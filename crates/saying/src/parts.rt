@@ -63,14 +63,19 @@ fn say_hex(x: u8) {
     io::print_hex(1, x as u64, 2);
 }
 
-// The bytes of the cards, two hexadecimal digits each.
-pub fn say_cards(cards: &[u8]) {
-    io::write_all(1, b" cards");
+// Bytes, two hexadecimal digits each.
+pub fn say_hexes(bytes: &[u8]) {
     let mut i: usize = 0;
-    while i < cards.len() {
-        say_hex(cards[i]);
+    while i < bytes.len() {
+        say_hex(bytes[i]);
         i = i + 1;
     }
+}
+
+// The bytes of the cards.
+pub fn say_cards(cards: &[u8]) {
+    io::write_all(1, b" cards");
+    say_hexes(cards);
 }
 
 // What a call that is lent a table and cards gives, and leaves in them.

@@ -8,15 +8,15 @@ ghost use Rattle.factors.specs.Copies.{CopyList};
 ghost use Rattle.shuffle.specs.Shuffle.{ShuffleCards};
 ghost use Rattle.runs.specs.Run.{WholeRun};
 ghost use Rattle.jobfile.specs.Answers.{ReadFile};
+ghost use Rattle.jobwriter.specs.Writing.{WriteFile};
 ghost use Rattle.listing.specs.Listing.{ListJob};
-ghost use Rattle.flat.specs.Flat.{answerOf, fileOf, textOf};
+ghost use Rattle.flat.specs.Flat.{answerOf, fileOf, sizeOf};
 ghost use Rattle.seineflute.specs.Contracts.{LimitsGiven, SlotNumbers};
 use flat::Answer;
 use flat::FileAnswer;
-use flat::ListingAnswer;
+use flat::SizeAnswer;
 use flat::SlotAnswer;
 use racks::Job;
-use texts::TextAnswer;
 
 // Every limit and mark, as the library has it: racks, bytes of a card, user slots of a rack and of all racks, slots; a free slot, the hand;
 // bytes of a file that is listed, and bytes that are enough for every text.
@@ -46,8 +46,8 @@ pub extern "C" fn seineflute_limits() -> Limits
         slots: Job::MAX_SLOTS,
         free: Job::FREE as usize,
         hand: Job::HAND as usize,
-        file: TextAnswer::FILE,
-        enough: TextAnswer::ENOUGH,
+        file: texts::FILE,
+        enough: texts::ENOUGH,
     }
 }
 
@@ -159,11 +159,26 @@ pub extern "C" fn seineflute_read_file(
     flat::parts::file_numbers(found)
 }
 
+// Write file.
+#[no_mangle]
+pub extern "C" fn seineflute_write_file(
+    caps: &[u16],
+    b: usize,
+    places: &[u16],
+    cards: &[u8],
+    out: &mut [u8],
+) -> SizeAnswer
+    ensures { λ r. ⌜ WriteFile (now (caps .entry)) b (now (places .entry)) (now (cards .entry)) (now (out .entry)) (sizeOf r) (now (out .exit)) ⌝ }
+{
+    let found = jobwriter::write_file(caps, b, places, cards, out);
+    flat::parts::size_numbers(found)
+}
+
 // The listing.
 #[no_mangle]
-pub extern "C" fn seineflute_list_job(file: &[u8], out: &mut [u8]) -> ListingAnswer
-    ensures { λ r. ⌜ ListJob (now (file .entry)) (now (out .entry)) (textOf r) (now (out .exit)) ⌝ }
+pub extern "C" fn seineflute_list_job(file: &[u8], out: &mut [u8]) -> SizeAnswer
+    ensures { λ r. ⌜ ListJob (now (file .entry)) (now (out .entry)) (sizeOf r) (now (out .exit)) ⌝ }
 {
     let found = listing::list_job(file, out);
-    flat::parts::text_numbers(found)
+    flat::parts::size_numbers(found)
 }

@@ -5,7 +5,6 @@ ghost use lib.ListN.{length, take};
 ghost use Rattle.listing.specs.Listing.{ENOUGH, listing};
 use libc::STDIN_FILENO;
 use libc::STDOUT_FILENO;
-use texts::TextAnswer;
 
 // The text of a file, at the front of a buffer that is always long enough; gives how many bytes it has.
 fn list_file(file: &[u8], out: &mut [u8]) -> usize
@@ -19,7 +18,7 @@ fn list_file(file: &[u8], out: &mut [u8]) -> usize
 
 // Lists the file.
 fn list(file: &[u8]) {
-    let mut out = [0u8; TextAnswer::ENOUGH];
+    let mut out = [0u8; texts::ENOUGH];
     let size = list_file(file, &mut out);
     if !io::write_all(STDOUT_FILENO, &out[..size]) {
         os::fail(b"shelve: standard output");
@@ -34,9 +33,9 @@ fn has_ended() -> bool {
 
 // One byte more than a file may have is enough to see that it has too many.
 fn main() {
-    let mut file = [0u8; TextAnswer::FILE + 1];
+    let mut file = [0u8; texts::FILE + 1];
     let n = io::read_full(STDIN_FILENO, &mut file);
-    if n <= TextAnswer::FILE {
+    if n <= texts::FILE {
         if !has_ended() {
             os::fail(b"shelve: standard input");
             return;

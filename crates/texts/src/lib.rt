@@ -1,18 +1,8 @@
 // Text in a lent buffer: words and numbers, arrows, the lines of a listing.
-use answers::Answer;
-
 pub mod parts;
 
-// What the listing gives: the number, and how many bytes the text has.
-pub struct TextAnswer {
-    pub answer: Answer,
-    pub size: usize,
-}
+// The most bytes of a file that is not refused with 18.
+pub const FILE: usize = 32768;
 
-impl TextAnswer {
-    // The most bytes of a file that is not refused with 18.
-    pub const FILE: usize = 32768;
-
-    // A buffer of so many bytes is long enough for the text of every file.
-    pub const ENOUGH: usize = 245818;
-}
+// A buffer of so many bytes is long enough for the text of every file.
+pub const ENOUGH: usize = 245818;

@@ -79,7 +79,7 @@ impl Random {
     }
 }
 
-#[derive(Clone, Default)]
+#[derive(Clone, Debug, Default, PartialEq, Eq)]
 pub struct Job {
     pub caps: Vec<u16>,
     pub b: usize,
@@ -124,7 +124,7 @@ pub fn legal(random: &mut Random, size: Size) -> Job {
     let caps = capacities(random, size);
     let b = match size {
         Size::Small => random.between(1, 3),
-        Size::Medium => random.pick(&[1, 2, 5, 16, 17, 31, 64, 100, 255, 256]),
+        Size::Medium => random.pick(&[1, 2, 5, 16, 17, 31, 64, 100, 127, 128, 255, 256]),
         Size::Limit => random.pick(&[1, 1, 2, 6, 7, 8, 33, 256]),
     };
     let places = places(random, &caps);
@@ -181,7 +181,12 @@ fn capacities(random: &mut Random, size: Size) -> Vec<u16> {
         }
         Size::Medium => {
             let (racks, largest) = (random.between(1, 20), random.between(1, 30));
-            list(random, racks, largest)
+            let mut caps = list(random, racks, largest);
+            // In a file a number takes two groups from 128 on.
+            if random.once_in(8) {
+                caps[0] = random.between(126, 129) as u16;
+            }
+            caps
         }
         Size::Limit => match random.below(10) {
             0..=2 => vec![63; 64],

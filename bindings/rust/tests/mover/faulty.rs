@@ -1,10 +1,13 @@
 //! A mover with one deliberate fault, to show that a test can fail. Each is a
 //! slip that an honest implementation could make.
 
-use super::{Answer, FileAnswer, ListingAnswer, Mover, SlotAnswer};
+use super::{Answer, FileAnswer, Mover, SizeAnswer, SlotAnswer};
 
 /// Faults are numbered from 1; 0 is none.
-pub const FAULTS: usize = 18;
+pub const FAULTS: usize = 27;
+
+/// Those of them that write a wrong file.
+pub const WRONG_FILES: std::ops::RangeInclusive<usize> = 19..=22;
 
 const FREE: u16 = 65_535;
 
@@ -26,6 +29,73 @@ fn has_double(places: &[u16]) -> bool {
     let mut cards: Vec<u16> = places.iter().copied().filter(|&e| e != FREE).collect();
     cards.sort_unstable();
     cards.windows(2).any(|two| two[0] == two[1])
+}
+
+fn refused(number: usize) -> SizeAnswer {
+    SizeAnswer {
+        number,
+        ..SizeAnswer::default()
+    }
+}
+
+/// Puts a number behind what a file has.
+type Put = fn(&mut Vec<u8>, usize);
+
+/// A number as it should be.
+fn put_number(file: &mut Vec<u8>, number: usize) {
+    match number {
+        0..128 => file.push(number as u8),
+        _ => put_two_groups(file, number),
+    }
+}
+
+fn put_two_groups(file: &mut Vec<u8>, number: usize) {
+    file.extend([(number % 128 + 128) as u8, (number / 128) as u8]);
+}
+
+/// The first of two groups does not say that another follows.
+fn put_no_top_bit(file: &mut Vec<u8>, number: usize) {
+    match number {
+        0..128 => file.push(number as u8),
+        _ => file.extend([(number % 128) as u8, (number / 128) as u8]),
+    }
+}
+
+/// The second group comes one number too late.
+fn put_late(file: &mut Vec<u8>, number: usize) {
+    match number {
+        0..=128 => file.push(number as u8),
+        _ => put_two_groups(file, number),
+    }
+}
+
+/// The file of a job by a fault in its numbers, if it is one of these.
+fn wrong_file(
+    fault: usize,
+    caps: &[u16],
+    b: usize,
+    places: &[u16],
+    cards: &[u8],
+) -> Option<Vec<u8>> {
+    let (put, more): (Put, usize) = match fault {
+        19 => (put_no_top_bit, 1),
+        20 => (put_late, 1),
+        // Every number in two groups.
+        21 => (put_two_groups, 1),
+        // An entry is the destination, not one more.
+        22 => (put_number, 0),
+        _ => return None,
+    };
+    let mut file = Vec::new();
+    put(&mut file, caps.len());
+    put(&mut file, b);
+    caps.iter().for_each(|&m| put(&mut file, m.into()));
+    for &entry in places {
+        let free = entry == FREE;
+        put(&mut file, if free { 0 } else { usize::from(entry) + more });
+    }
+    file.extend_from_slice(cards);
+    Some(file)
 }
 
 impl<M: Mover> Mover for Faulty<M> {
@@ -181,7 +251,48 @@ impl<M: Mover> Mover for Faulty<M> {
         answer
     }
 
-    fn list_job(&self, file: &[u8], out: &mut [u8]) -> ListingAnswer {
+    fn write_file(
+        &self,
+        caps: &[u16],
+        b: usize,
+        places: &[u16],
+        cards: &[u8],
+        out: &mut [u8],
+    ) -> SizeAnswer {
+        let mut answer = self.inner.write_file(caps, b, places, cards, out);
+        if answer.number == 0 {
+            let wrong = wrong_file(self.fault, caps, b, places, cards);
+            if let Some(file) = wrong.filter(|file| file.len() <= out.len()) {
+                out[..file.len()].copy_from_slice(&file);
+                answer.size = file.len();
+            }
+        }
+        // A buffer exactly long enough is too short.
+        if self.fault == 23 && answer.number == 0 && out.len() == answer.size {
+            return refused(19);
+        }
+        // An end mark behind the file.
+        if self.fault == 24 && answer.number == 0 {
+            if let Some(behind) = out.get_mut(answer.size) {
+                *behind = 0;
+            }
+        }
+        // A file that does not fit is begun.
+        if self.fault == 25 && answer.number == 19 && !out.is_empty() {
+            out[0] = caps.len() as u8;
+        }
+        // An empty buffer is too short, whatever the job is.
+        if self.fault == 26 && answer.number != 0 && out.is_empty() {
+            return refused(19);
+        }
+        // What the program would refuse is not written.
+        if self.fault == 27 && answer.size > 32_768 {
+            return refused(18);
+        }
+        answer
+    }
+
+    fn list_job(&self, file: &[u8], out: &mut [u8]) -> SizeAnswer {
         // The limit itself is refused.
         if self.fault == 17 && file.len() == 32_768 {
             return self.inner.list_job(&[file, &[0]].concat(), out);

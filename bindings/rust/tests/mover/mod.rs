@@ -1,4 +1,4 @@
-//! The ten calls behind one trait, so that one test can run any
+//! The eleven calls behind one trait, so that one test can run any
 //! implementation of them.
 
 #![allow(dead_code)]
@@ -8,7 +8,7 @@ pub mod faulty;
 use crate::engine;
 use crate::plain;
 use seineflute::raw;
-pub use seineflute::raw::{Answer, FileAnswer, ListingAnswer, SlotAnswer};
+pub use seineflute::raw::{Answer, FileAnswer, SizeAnswer, SlotAnswer};
 
 pub trait Mover {
     fn check_table(&self, caps: &[u16], places: &[u16]) -> Answer;
@@ -36,10 +36,18 @@ pub trait Mover {
         -> Answer;
     fn whole_run(&self, caps: &[u16], b: usize, places: &mut [u16], cards: &mut [u8]) -> Answer;
     fn read_file(&self, file: &[u8], caps: &mut [u16], places: &mut [u16]) -> FileAnswer;
-    fn list_job(&self, file: &[u8], out: &mut [u8]) -> ListingAnswer;
+    fn write_file(
+        &self,
+        caps: &[u16],
+        b: usize,
+        places: &[u16],
+        cards: &[u8],
+        out: &mut [u8],
+    ) -> SizeAnswer;
+    fn list_job(&self, file: &[u8], out: &mut [u8]) -> SizeAnswer;
 }
 
-/// A module with the ten calls as a `Mover`.
+/// A module with the eleven calls as a `Mover`.
 macro_rules! mover {
     ($name:ident, $module:ident) => {
         #[derive(Clone, Copy)]
@@ -109,7 +117,18 @@ macro_rules! mover {
                 $module::read_file(file, caps, places)
             }
 
-            fn list_job(&self, file: &[u8], out: &mut [u8]) -> ListingAnswer {
+            fn write_file(
+                &self,
+                caps: &[u16],
+                b: usize,
+                places: &[u16],
+                cards: &[u8],
+                out: &mut [u8],
+            ) -> SizeAnswer {
+                $module::write_file(caps, b, places, cards, out)
+            }
+
+            fn list_job(&self, file: &[u8], out: &mut [u8]) -> SizeAnswer {
                 $module::list_job(file, out)
             }
         }

@@ -8,7 +8,7 @@
 
 #![allow(dead_code)]
 
-pub use seineflute::raw::{Answer, FileAnswer, ListingAnswer, SlotAnswer};
+pub use seineflute::raw::{Answer, FileAnswer, SizeAnswer, SlotAnswer};
 use std::fmt::Write;
 use std::ops::Range;
 
@@ -644,21 +644,94 @@ pub fn read_file(file: &[u8], caps: &mut [u16], places: &mut [u16]) -> FileAnswe
     }
 }
 
+/// A number in groups of seven bits, lowest first, the top bit set where
+/// another follows. No group of zeros comes last, but for 0 itself.
+fn push_number(file: &mut Vec<u8>, number: usize) {
+    let mut left = number;
+    while left >= 128 {
+        file.push((left % 128) as u8 + 128);
+        left /= 128;
+    }
+    file.push(left as u8);
+}
+
+/// "0 free, else destination + 1."
+fn entry_in_file(entry: u16) -> usize {
+    match entry {
+        FREE => 0,
+        destination => usize::from(destination) + 1,
+    }
+}
+
+/// "N, B, the m_p, then S entries, then S·B card bytes."
+fn file_of_job(caps: &[u16], b: usize, places: &[u16], cards: &[u8]) -> Vec<u8> {
+    let mut file = Vec::new();
+    push_number(&mut file, caps.len());
+    push_number(&mut file, b);
+    for &m in caps {
+        push_number(&mut file, usize::from(m));
+    }
+    for &entry in places {
+        push_number(&mut file, entry_in_file(entry));
+    }
+    file.extend_from_slice(cards);
+    file
+}
+
+/// The number, all counts and the length 0.
+fn refused_write(number: usize) -> SizeAnswer {
+    SizeAnswer {
+        number,
+        ..SizeAnswer::default()
+    }
+}
+
+/// The job's file to the front of the buffer.
+pub fn write_file(
+    caps: &[u16],
+    b: usize,
+    places: &[u16],
+    cards: &[u8],
+    buffer: &mut [u8],
+) -> SizeAnswer {
+    try_write_file(caps, b, places, cards, buffer).unwrap_or_else(refused_write)
+}
+
+/// 1 to 6, then 19; the bytes behind the file stay.
+fn try_write_file(
+    caps: &[u16],
+    b: usize,
+    places: &[u16],
+    cards: &[u8],
+    buffer: &mut [u8],
+) -> Result<SizeAnswer, usize> {
+    check_job_with_cards(caps, b, places, cards)?;
+    let file = file_of_job(caps, b, places, cards);
+    if buffer.len() < file.len() {
+        return Err(19);
+    }
+    buffer[..file.len()].copy_from_slice(&file);
+    Ok(SizeAnswer {
+        size: file.len(),
+        ..SizeAnswer::default()
+    })
+}
+
 // ---------------------------------------------------------------------------
 // The program's listing
 
-pub fn list_job(file: &[u8], out: &mut [u8]) -> ListingAnswer {
+pub fn list_job(file: &[u8], out: &mut [u8]) -> SizeAnswer {
     let text = listing(file);
     if out.len() < text.len() {
-        return ListingAnswer {
+        return SizeAnswer {
             number: 13,
-            ..ListingAnswer::default()
+            ..SizeAnswer::default()
         };
     }
     out[..text.len()].copy_from_slice(text.as_bytes());
-    ListingAnswer {
+    SizeAnswer {
         size: text.len(),
-        ..ListingAnswer::default()
+        ..SizeAnswer::default()
     }
 }
 

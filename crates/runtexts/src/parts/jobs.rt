@@ -20,7 +20,6 @@ use crate::parts::phasing;
 use answers::Tally;
 use factors::parts::walks;
 use racks::Job;
-use texts::TextAnswer;
 use texts::parts::lines;
 use texts::parts::words;
 
@@ -69,7 +68,7 @@ pub fn put_job(out: &mut [u8], caps: &[u16], b: usize, places: &mut [u16], bytes
     requires { ⌜ (first (cardChecks (ofCaps (now caps)) b (now places) (now bytes)) ≡ 0) × (length (now bytes) ≤ FILE) × Room (runText (ofCaps (now caps)) b (held (now places) (now bytes))) 0 (now out) ⌝ }
     ensures { λ r. ⌜ Wrote (runText (ofCaps (now (caps .entry))) b (held (now (places .entry)) (now (bytes .entry)))) (now (out .entry)) 0 (now (out .exit)) r ⌝ }
 {
-    let mut cards = [0u8; TextAnswer::FILE];
+    let mut cards = [0u8; texts::FILE];
     let size = words::put_text(&mut cards, 0, bytes);
     let job = Job::of(caps);
     let mut racking = [0u8; Job::MAX_SLOTS];

@@ -1,21 +1,15 @@
--- `saying::say::say_cards` meets its contract. Assumes nothing.
+-- `saying::parts::say_hexes` meets its contract. Assumes nothing.
 use Prim.Native.Nat.{_-_, _≤_}
 use lib.ListN.{length}
 use borrow.Author.Needs.{needs}
-use Rattle.saying.proofs.parts.say_cards.Statement.{statement}
-use Rattle.saying.proofs.parts.say_cards.Tie as tie
+use Rattle.saying.proofs.parts.say_hexes.Statement.{statement}
+use Rattle.saying.proofs.parts.say_hexes.Tie as tie
 
 abbrev Inv-loop : tie.InvT-loop
-Inv-loop cards i₀ i = i ≤ length cards
+Inv-loop bytes i₀ i = i ≤ length bytes
 
 abbrev μ-loop : tie.MeasureT-loop
-μ-loop cards i₀ i = length cards - i
-
-slice-aggregate-write-all : tie.Need-slice-aggregate-write-all Inv-loop μ-loop
-slice-aggregate-write-all c = search needs
-
-write-all-requires : tie.Need-write-all-requires Inv-loop μ-loop
-write-all-requires c κs = search needs
+μ-loop bytes i₀ i = length bytes - i
 
 loop-holds : tie.Need-loop-holds Inv-loop μ-loop
 loop-holds c = search needs
@@ -38,14 +32,12 @@ loop-again c = search needs
 returns : tie.Need-returns Inv-loop μ-loop
 returns c = search needs
 
-pub say-cards-spec : {M : Type 1} → statement M
-say-cards-spec =
+pub say-hexes-spec : {M : Type 1} → statement M
+say-hexes-spec =
     tie.close
     (tie.spec
     Inv-loop
     μ-loop
-    slice-aggregate-write-all
-    write-all-requires
     loop-holds
     shared-slice-read-say-hex
     say-hex-requires

@@ -1,0 +1,6 @@
+pub mod Numerals
+pub mod Tables
+pub mod ReadBack
+pub mod Forms
+pub mod WriteBack
+pub mod Calls

@@ -1,0 +1,1 @@
+// The reader and the writer of job files undo each other; laws alone.
