@@ -40,7 +40,7 @@ use Rattle.demands.specs.FileConditions.{fileRows, NoRoom, FileTooLarge}
 use Rattle.demands.specs.Demand1.{Demand1}
 use Rattle.demands.proofs.Acceptance.{accepted-legal, accepted-table}
 use Rattle.demands.proofs.Rows.{given-none, given-row, holds-some, none-left, none-right}
-use Rattle.demands.proofs.Says.{says-or, says-lt, says-user, says-7, says-12, says-13}
+use Rattle.demands.proofs.Says.{says-or, says-lt, says-user, says-7, says-12, says-short}
 use Rattle.demands.proofs.CallRows.{given-table, given-cards, given-table-only, given-cards-only, given-ends}
 use Rattle.demands.proofs.Forms.{given-form, numeral-ends, numeral-good}
 use Rattle.demands.proofs.FileRows.{given-file, given-file-only}
@@ -137,19 +137,19 @@ demand1 =
     record {
       check-table = given-table-only;
       slot-question = λ racks places g. given-table racks places _ _ (given-row _ (λ e. omega arith) (says-7 racks g) given-none);
-      phase-plan = λ racks places lent. given-table racks places _ _ (given-row _ (λ e. omega arith) (says-13 lent _) given-none);
+      phase-plan = λ racks places lent. given-table racks places _ _ (given-row _ (λ e. omega arith) (says-short lent _) given-none);
       one-move = λ racks b h from to. given-cards racks (h .places) _ _ (given-ends racks (h .places) from to) b (h .cards);
       budgeted-moves = λ racks b h k. given-cards-only racks (h .places) b (h .cards);
       copy-list = λ racks places lent. given-table racks places _ _
-          (given-row _ (λ e. omega arith) (says-12 racks places) (given-row _ (λ e. omega arith) (says-13 lent _) given-none));
+          (given-row _ (λ e. omega arith) (says-12 racks places) (given-row _ (λ e. omega arith) (says-short lent _) given-none));
       shuffle-cards = λ racks b h. given-cards racks (h .places) _ _ (given-row _ (λ e. omega arith) (says-12 racks (h .places)) given-none) b (h .cards);
       whole-run = λ racks b h. given-cards-only racks (h .places) b (h .cards);
       read-file = given-read;
-      write-file = λ racks b places cards lent. given-cards racks places _ _ (given-row _ (λ e. omega arith) (says-13 lent _) given-none) b cards;
+      write-file = λ racks b places cards lent. given-cards racks places _ _ (given-row _ (λ e. omega arith) (says-short lent _) given-none) b cards;
       read-job = given-job;
       from-start = λ reader z. ap (λ (at : ℕ). drop at (now (reader .file))) z;
       behind-end = behind;
-      list-job = λ file lent. given-row _ (λ e. omega arith) (says-13 lent _) given-none;
+      list-job = λ file lent. given-row _ (λ e. omega arith) (says-short lent _) given-none;
       form = given-form;
       ends = numeral-ends;
       value = numeral-good;

@@ -148,7 +148,7 @@ module _ (places : List ℕ) where
   unfolding targetTaken free
   says-11 to = says-not (says-eq (dest places to) 65535)
 
--- 13
-pub says-13 : (lent out : List ℕ) → (tooShort lent out ≡ true) ↔ TooShort lent out
+-- 13 and 19
+pub says-short : (lent out : List ℕ) → (tooShort lent out ≡ true) ↔ TooShort lent out
 unfolding tooShort
-says-13 lent out = says-lt (length lent) (length out)
+says-short lent out = says-lt (length lent) (length out)

@@ -17,7 +17,7 @@ use Rattle.numerals.specs.Numeral.{lastGroup, groups, numeral, numerals}
 use Rattle.numerals.proofs.Groups.{last-some}
 use Rattle.numerals.proofs.Numerals.{got, reading, numerals-on}
 use Rattle.jobwriter.specs.Writing.{groupsOf, numeralOf}
-use Rattle.roundtrip.specs.RoundTrip.{Passing}
+use Rattle.roundtrip.specs.parts.Reading.{Passing}
 
 -- what stands at a place, and what comes behind it
 front : (file : List ℕ) (at x : ℕ) (rest : List ℕ) → drop at file ≡ x ∷ rest → (at < length file) × (getD file at 0 ≡ x) × (drop (suc at) file ≡ rest)

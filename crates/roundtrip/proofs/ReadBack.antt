@@ -24,7 +24,7 @@ use Rattle.numerals.proofs.Numerals.{reading}
 use Rattle.parsing.specs.File.{wrongN, wrongB, wrongM, wrongEntry, entryOf, readN, readB, readM, readEntries, fileRacks, fileBytes, filePlaces, fileCards, fileChecks}
 use Rattle.jobwriter.proofs.Files.{file-most}
 use Rattle.jobwriter.specs.Writing.{numeralOf, entryNumber, fileNumbers, fileFor}
-use Rattle.roundtrip.specs.RoundTrip.{Passing, jobsFile, ReadBack}
+use Rattle.roundtrip.specs.parts.Reading.{Passing, jobsFile, ReadBack}
 use Rattle.roundtrip.proofs.Numerals.{behind, numerals-at, four-parts}
 use Rattle.roundtrip.proofs.Tables.{each-back, caps-back, entry-back, one-clear, number-small, number-passes, caps-pass}
 

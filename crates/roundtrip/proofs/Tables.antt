@@ -25,7 +25,7 @@ use Rattle.parsing.specs.File.{wrongM, wrongEntry, entryOf}
 use Rattle.parsing.proofs.Capacities.{size-users, size-total}
 use Rattle.parsing.proofs.Entries.{wrong-same}
 use Rattle.jobwriter.specs.Writing.{entryNumber, capOf}
-use Rattle.roundtrip.specs.RoundTrip.{Passing}
+use Rattle.roundtrip.specs.parts.Reading.{Passing}
 
 -- each there and back again
 pub each-back : {A B : Type 0} (f : A → B) (g : B → A) (d : A) (l : List A) → ((k : ℕ) → k < length l → g (f (getD l k d)) ≡ getD l k d) → each g (each f l) ≡ l
