@@ -117,7 +117,7 @@ module _ {words : List ℕ} {at rest : ℕ} where
   pub onward : {t k : ℕ} → Walking words t at rest → t ≤ k → k < 4096 → isOn words k ≡ true → Onward words at rest
   onward {t} {k} w l m o = record {
     later = λ e. record {
-      k = k;
+      member = k;
       behind = elim (decLt k ((at / 64 + 1) * 64)) [ yes i ↦ absurd (no-way o (walk-word w e k l i)) | no i ↦ omega arith ];
       within = m;
       on = o;
@@ -138,8 +138,8 @@ module _ {words : List ℕ} {at rest : ℕ} where
       pub later-lt : v < 64
       later-lt = let r = n .later e in elim (decLt v 64) [
         | yes l ↦ l
-        | no l ↦ absurd (no-way (r .on) (is-on-at words (r .k) (r .k / 64) (r .k % 64) refl refl
-            ∙ top-off p (r .k / 64) (r .k % 64) (omega (arith, r .within)) (o .passed (r .k / 64) (omega (arith, r .behind)) (omega (arith, r .within)))))
+        | no l ↦ absurd (no-way (r .on) (is-on-at words (r .member) (r .member / 64) (r .member % 64) refl refl
+            ∙ top-off p (r .member / 64) (r .member % 64) (omega (arith, r .within)) (o .passed (r .member / 64) (omega (arith, r .behind)) (omega (arith, r .within)))))
       ]
 
       -- it is walked next

@@ -11,12 +11,12 @@ use borrow.Author.Tests.{lt-ltb, le-ltb}
 use Rattle.counting.specs.Tests.{bit}
 use Rattle.racks.specs.Racks.{Rack, base, slots, spareOf, isUser}
 use Rattle.racks.proofs.Geometry.{rack-is, user-is, user-none, end-le, spare-is, spare-end}
-use Rattle.entries.specs.parts.Marks.{Between, UsersMarked}
+use Rattle.entries.specs.parts.Marks.{FilledFrom, UsersMarked}
 
-pub between-none : (low value : ℕ) (t : List ℕ) → Between low low value t t
+pub between-none : (low value : ℕ) (t : List ℕ) → FilledFrom low low value t t
 between-none low value t = record { inside = λ g l h. absurd (omega arith); below = λ g h. refl; above = λ g h l. refl; long = refl }
 
-pub between-more : (low g value : ℕ) (before t : List ℕ) → low ≤ g → g < length t → Between low g value before t → Between low (g + 1) value before (set t g value)
+pub between-more : (low g value : ℕ) (before t : List ℕ) → low ≤ g → g < length t → FilledFrom low g value before t → FilledFrom low (g + 1) value before (set t g value)
 between-more low g value before t l h b =
     record {
       inside = λ k m m′.
@@ -30,7 +30,7 @@ between-more low g value before t l h b =
     }
 
 -- a loop that never began, or came to its end
-pub between-done : (low g high value : ℕ) (before t : List ℕ) → low ≤ g → high ≤ g → (low < g → g ≤ high) → Between low g value before t → Between low high value before t
+pub between-done : (low g high value : ℕ) (before t : List ℕ) → low ≤ g → high ≤ g → (low < g → g ≤ high) → FilledFrom low g value before t → FilledFrom low high value before t
 between-done low g high value before t l h e b =
     record {
       inside = λ k m m′. b .inside k m (omega arith);
@@ -55,7 +55,7 @@ module _ (racks : List Rack) where
     user-here g m m′ =
         user-is racks g (omega (arith, end-le racks p l)) ∙ ap (λ (q : ℕ). ltb g (spareOf racks q)) (rack-is racks p g l (omega arith) (omega arith))
 
-    pub marked-more : (spare : ℕ) (before t : List ℕ) → spare ≡ spareOf racks p → MarkedTo racks low before → Between low spare 1 before t → MarkedTo racks high t
+    pub marked-more : (spare : ℕ) (before t : List ℕ) → spare ≡ spareOf racks p → MarkedTo racks low before → FilledFrom low spare 1 before t → MarkedTo racks high t
     marked-more spare before t es f b = record { marks = marks; behind = behind }
       where
         marks : (g : ℕ) → g < high → getD t g 0 ≡ bit (isUser racks g)

@@ -19,7 +19,7 @@ use Rattle.racks.specs.Racks.{Rack, base, slots, spareOf, isUser}
 use Rattle.racks.specs.Table.{dest, free, names}
 use Rattle.racks.specs.Numbers.{badEntry, badEntries, repeats, badTwice}
 use Rattle.racks.proofs.Geometry.{user-lt}
-use Rattle.entries.specs.parts.Marks.{Between, entriesNumber}
+use Rattle.entries.specs.parts.Marks.{FilledFrom, entriesNumber}
 use Rattle.entries.specs.parts.Once.{placeOf, OnceMarked, MarkTaken}
 use Rattle.entries.proofs.Fills.{user-here}
 use Rattle.entries.proofs.Marks.{repeats-free}
@@ -53,7 +53,7 @@ OpenTo racks n marks = (v : ℕ) → v < n → getD marks v 0 ≡ 1 → isUser r
 
 -- one rack more: its spares are shut
 pub open-more : (racks : List Rack) (small : slots racks ≤ 4096) (p low high : ℕ) → p < length racks → low ≡ base racks p → high ≡ base racks (suc p)
-    → (spare : ℕ) (before after : List ℕ) → spare ≡ spareOf racks p → OpenTo racks low before → Between spare high 0 before after → OpenTo racks high after
+    → (spare : ℕ) (before after : List ℕ) → spare ≡ spareOf racks p → OpenTo racks low before → FilledFrom spare high 0 before after → OpenTo racks high after
 open-more racks small p low high l el eh spare before after es h b v m o = elim (decLt v spare) [
   | yes k ↦ elim (decLt v low) [
     | yes q ↦ h v q (sym (b .below v k) ∙ o)

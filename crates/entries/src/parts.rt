@@ -6,14 +6,14 @@ ghost use lib.ListN.{length, replicate};
 ghost use Rattle.counting.specs.Tests.{_and_};
 ghost use Rattle.racks.specs.Limits.{SLOTS, MARKS};
 ghost use Rattle.racks.specs.Job.{racksOf, Sound};
-ghost use Rattle.entries.specs.parts.Marks.{Between, UsersMarked, Entered, entriesNumber, worse};
+ghost use Rattle.entries.specs.parts.Marks.{FilledFrom, UsersMarked, Entered, entriesNumber, worse};
 ghost use Rattle.entries.specs.parts.Once.{placeOf, MarkTaken, OnceMarked};
 use racks::Job;
 
 // One value from `low` up to `high` in a list of bytes.
 pub fn fill(list: &mut [u8], low: usize, high: usize, value: u8)
     requires { ⌜ high ≤ length (now list) ⌝ }
-    ensures { λ _. ⌜ Between low high value (now (list .entry)) (now (list .exit)) ⌝ }
+    ensures { λ _. ⌜ FilledFrom low high value (now (list .entry)) (now (list .exit)) ⌝ }
 {
     let mut g = low;
     while g < high {

@@ -31,22 +31,22 @@ use Rattle.racks.proofs.Table.{read-dest}
 use Rattle.racks.proofs.LegalTable.{legal-slot, spare-lt}
 use Rattle.tables.specs.parts.Tables.{OpenCards, cardsNumber}
 use Rattle.tables.proofs.Tables.{cards-racks, same-racks, of-card-checks}
-use Rattle.jobwriter.specs.Writing.{numeralOf, numeralsOf, entryNumber, capOf, fileNumbers, fileFor, writeChecks, filed}
+use Rattle.jobwriter.specs.Writing.{numeralOf, numeralsOf, fileEntry, capOf, fileNumbers, fileFor, writeChecks, filed}
 use Rattle.jobwriter.specs.parts.Puts.{Short, Put, Roomy, Writable, writeNumber, filedBy}
 use Rattle.jobwriter.proofs.Puts.{one-group, numeral-length, put-then, numerals-append, all-few}
 
 -- an entry as the file has it
-pub entry-free : (x : ℕ) → x ≡ FREE → 0 ≡ entryNumber x
-unfolding entryNumber
+pub entry-free : (x : ℕ) → x ≡ FREE → 0 ≡ fileEntry x
+unfolding fileEntry
 entry-free x e = rw (eq-eqb x FREE e)
 
-pub entry-held : (x : ℕ) → x ≢ FREE → x + 1 ≡ entryNumber x
-unfolding entryNumber
+pub entry-held : (x : ℕ) → x ≢ FREE → x + 1 ≡ fileEntry x
+unfolding fileEntry
 entry-held x f = rw (ne-eqb x FREE f)
 
 -- entry g, as the code reads it
-pub entry-at : (places : List ℕ) (g x : ℕ) → g < length places → x ≡ entryNumber (getD places g 0) → x ≡ getD (each entryNumber places) g 0
-entry-at places g x h e = e ∙ sym (getD-each entryNumber places g 0 0 h)
+pub entry-at : (places : List ℕ) (g x : ℕ) → g < length places → x ≡ fileEntry (getD places g 0) → x ≡ getD (each fileEntry places) g 0
+entry-at places g x h e = e ∙ sym (getD-each fileEntry places g 0 0 h)
 
 -- m_p: from where rack p begins to its spares
 module _ (racks : List Rack) where
@@ -60,11 +60,11 @@ module _ (racks : List Rack) where
       omega (arith, cap-at p l, spare-end racks p, end-le racks p l)
 
   -- the entries of a legal table
-  pub entries-short : (places : List ℕ) → Legal racks places → slots racks ≤ 4096 → Short (each entryNumber places)
-  unfolding entryNumber
+  pub entries-short : (places : List ℕ) → Legal racks places → slots racks ≤ 4096 → Short (each fileEntry places)
+  unfolding fileEntry
   entries-short places legal small g h =
-      let l : g < length places = omega (arith, length-each entryNumber places) in
-      rw (getD-each entryNumber places g 0 0 l, read-dest places g l)
+      let l : g < length places = omega (arith, length-each fileEntry places) in
+      rw (getD-each fileEntry places g 0 0 l, read-dest places g l)
       (elim (ℕ-discrete (dest places g) FREE) [
         | yes e ↦ rw (eq-eqb (dest places g) FREE e) (omega arith)
         | no f ↦ rw (ne-eqb (dest places g) FREE f) (omega (arith, legal-slot racks places legal g (dest places g) l refl f))
@@ -72,13 +72,13 @@ module _ (racks : List Rack) where
 
   -- all numbers: N, B, the m_p, the entries
   pub numbers-are : (b : ℕ) (places : List ℕ)
-      → ((numeralOf (length racks) ++ numeralOf b) ++ numeralsOf (each capOf racks)) ++ numeralsOf (each entryNumber places) ≡ numeralsOf (fileNumbers racks b places)
+      → ((numeralOf (length racks) ++ numeralOf b) ++ numeralsOf (each capOf racks)) ++ numeralsOf (each fileEntry places) ≡ numeralsOf (fileNumbers racks b places)
   unfolding fileNumbers join each
   numbers-are b places =
-      rw (append-assoc (numeralOf (length racks) ++ numeralOf b), append-assoc (numeralOf (length racks)), ← numerals-append (each capOf racks) (each entryNumber places))
+      rw (append-assoc (numeralOf (length racks) ++ numeralOf b), append-assoc (numeralOf (length racks)), ← numerals-append (each capOf racks) (each fileEntry places))
 
   -- how many bytes they are, as the code adds them
-  pub numbers-size : (b m c e : ℕ) (places : List ℕ) → length racks ≤ 64 → b ≤ 256 → m ≡ bit (leb 128 b) → c ≡ length (numeralsOf (each capOf racks)) → e ≡ length (numeralsOf (each entryNumber places))
+  pub numbers-size : (b m c e : ℕ) (places : List ℕ) → length racks ≤ 64 → b ≤ 256 → m ≡ bit (leb 128 b) → c ≡ length (numeralsOf (each capOf racks)) → e ≡ length (numeralsOf (each fileEntry places))
       → 2 + m + c + e ≡ length (numeralsOf (fileNumbers racks b places))
   numbers-size b m c e places few fit em ec ee =
       omega (
@@ -86,7 +86,7 @@ module _ (racks : List Rack) where
         ap length (one-group (length racks) (omega arith)),
         numeral-length b (omega arith),
         ap length (numbers-are b places),
-        length-append ((numeralOf (length racks) ++ numeralOf b) ++ numeralsOf (each capOf racks)) (numeralsOf (each entryNumber places)),
+        length-append ((numeralOf (length racks) ++ numeralOf b) ++ numeralsOf (each capOf racks)) (numeralsOf (each fileEntry places)),
         length-append (numeralOf (length racks) ++ numeralOf b) (numeralsOf (each capOf racks)),
         length-append (numeralOf (length racks)) (numeralOf b),
       )
@@ -146,8 +146,8 @@ pub caps-few : {job : Job} → Sound job → length (numeralsOf (each capOf (rac
 caps-few {job} s = omega (arith, all-few (each capOf (racksOf job)) (caps-short (racksOf job) (s .small)), length-each capOf (racksOf job), s .few)
 
 module _ {job : Job} {b : ℕ} {places : List ℕ} (o : Writable job b places) where
-  pub entries-few : length (numeralsOf (each entryNumber places)) ≤ 8192
-  entries-few = omega (arith, all-few (each entryNumber places) (o .short), length-each entryNumber places, o .few)
+  pub entries-few : length (numeralsOf (each fileEntry places)) ≤ 8192
+  entries-few = omega (arith, all-few (each fileEntry places) (o .short), length-each fileEntry places, o .few)
 
   pub numbers-few : length (numeralsOf (fileNumbers (racksOf job) b places)) ≤ 8323
   numbers-few = omega (
@@ -168,8 +168,8 @@ file-most racks b places cards few fit small legal =
       bit-le (bit (leb 128 b)) (leb 128 b) refl,
       all-few (each capOf racks) (caps-short racks small),
       length-each capOf racks,
-      all-few (each entryNumber places) (entries-short racks places legal small),
-      length-each entryNumber places,
+      all-few (each fileEntry places) (entries-short racks places legal small),
+      length-each fileEntry places,
       numbers-size racks b (bit (leb 128 b)) _ _ places few fit refl refl refl,
       length-append (numeralsOf (fileNumbers racks b places)) cards,
     )
@@ -177,13 +177,13 @@ file-most racks b places cards few fit small legal =
 -- the file of an accepted job in a buffer that has room for it
 module _ {job : Job} {b : ℕ} {places : List ℕ} (o : Writable job b places) (cards l : List ℕ) (some : 0 < length cards) (fits : length (fileFor (racksOf job) b places cards) ≤ length l) where
   -- its numbers and its card bytes
-  parts : length (numeralOf (length (racksOf job))) + length (numeralOf b) + length (numeralsOf (each capOf (racksOf job))) + length (numeralsOf (each entryNumber places)) + length cards ≤ length l
+  parts : length (numeralOf (length (racksOf job))) + length (numeralOf b) + length (numeralsOf (each capOf (racksOf job))) + length (numeralsOf (each fileEntry places)) + length cards ≤ length l
   unfolding fileFor
   parts = omega (
     arith,
     ap length (numbers-are (racksOf job) b places),
     length-append (numeralsOf (fileNumbers (racksOf job) b places)) cards,
-    length-append ((numeralOf (length (racksOf job)) ++ numeralOf b) ++ numeralsOf (each capOf (racksOf job))) (numeralsOf (each entryNumber places)),
+    length-append ((numeralOf (length (racksOf job)) ++ numeralOf b) ++ numeralsOf (each capOf (racksOf job))) (numeralsOf (each fileEntry places)),
     length-append (numeralOf (length (racksOf job)) ++ numeralOf b) (numeralsOf (each capOf (racksOf job))),
     length-append (numeralOf (length (racksOf job))) (numeralOf b),
   )
@@ -202,7 +202,7 @@ module _ {job : Job} {b : ℕ} {places : List ℕ} (o : Writable job b places) (
 
   module _ {m : List ℕ} {j : ℕ} (v : Put ((numeralOf (length (racksOf job)) ++ numeralOf b) ++ numeralsOf (each capOf (racksOf job))) l 0 m j) where
     -- behind those for the entries
-    pub room-entries : Roomy (each entryNumber places) j m
+    pub room-entries : Roomy (each fileEntry places) j m
     room-entries = omega (
       arith,
       parts,
@@ -213,7 +213,7 @@ module _ {job : Job} {b : ℕ} {places : List ℕ} (o : Writable job b places) (
       length-append (numeralOf (length (racksOf job))) (numeralOf b),
     )
 
-    module _ {n : List ℕ} {k : ℕ} (w : Put (numeralsOf (each entryNumber places)) m j n k) where
+    module _ {n : List ℕ} {k : ℕ} (w : Put (numeralsOf (each fileEntry places)) m j n k) where
       all : Put (numeralsOf (fileNumbers (racksOf job) b places)) l 0 n k
       all = rw (numbers-are (racksOf job) b places) at (put-then v w)
 

@@ -27,8 +27,8 @@ abbrev pub numeralsOf : List ℕ → List ℕ
 numeralsOf xs = join (each numeralOf xs)
 
 -- an entry as the file has it: 0 free, else destination + 1
-unfoldable pub entryNumber : ℕ → ℕ
-entryNumber x = pick (eqb x FREE) 0 (x + 1)
+unfoldable pub fileEntry : ℕ → ℕ
+fileEntry x = pick (eqb x FREE) 0 (x + 1)
 
 -- m_p
 abbrev pub capOf : Rack → ℕ
@@ -36,7 +36,7 @@ capOf rack = rack .users
 
 -- the numbers of the file: N, B, the m_p, then S entries
 unfoldable pub fileNumbers : List Rack → ℕ → List ℕ → List ℕ
-fileNumbers racks b places = length racks ∷ b ∷ each capOf racks ++ each entryNumber places
+fileNumbers racks b places = length racks ∷ b ∷ each capOf racks ++ each fileEntry places
 
 -- the file of a job: its numbers, then the card bytes
 unfoldable pub fileFor : List Rack → ℕ → List ℕ → List ℕ → List ℕ

@@ -7,15 +7,15 @@ ghost use Rattle.counting.specs.Lists.{each};
 ghost use Rattle.racks.specs.Limits.{SLOTS};
 ghost use Rattle.racks.specs.Job.{racksOf, Sound, FitSpared};
 ghost use Rattle.answers.specs.Answers.{sizedOf};
-ghost use Rattle.jobwriter.specs.Writing.{numeralOf, numeralsOf, entryNumber, capOf, fileNumbers, fileFor};
+ghost use Rattle.jobwriter.specs.Writing.{numeralOf, numeralsOf, fileEntry, capOf, fileNumbers, fileFor};
 ghost use Rattle.jobwriter.specs.parts.Puts.{Short, Put, Roomy, Writable, filedBy};
 use answers::Answer;
 use answers::SizeAnswer;
 use racks::Job;
 
 // An entry as the file has it. Two returns that become one choice, not a branch.
-fn entry_number(x: u16) -> u16
-    ensures { λ r. ⌜ r ≡ entryNumber x ⌝ }
+fn file_entry(x: u16) -> u16
+    ensures { λ r. ⌜ r ≡ fileEntry x ⌝ }
 {
     if x == Job::FREE {
         return 0;
@@ -54,13 +54,13 @@ fn put_caps(job: Job, out: &mut [u8], at: usize) -> usize
 
 // The entries; the position behind them.
 fn put_entries(out: &mut [u8], at: usize, places: &[u16]) -> usize
-    requires { ⌜ Short (each entryNumber (now places)) × Roomy (each entryNumber (now places)) at (now out) ⌝ }
-    ensures { λ r. ⌜ Put (numeralsOf (each entryNumber (now (places .entry)))) (now (out .entry)) at (now (out .exit)) r ⌝ }
+    requires { ⌜ Short (each fileEntry (now places)) × Roomy (each fileEntry (now places)) at (now out) ⌝ }
+    ensures { λ r. ⌜ Put (numeralsOf (each fileEntry (now (places .entry)))) (now (out .entry)) at (now (out .exit)) r ⌝ }
 {
     let mut next = at;
     let mut g: usize = 0;
     while g < places.len() {
-        let x = entry_number(places[g]);
+        let x = file_entry(places[g]);
         next = put_number(out, next, x);
         g = g + 1;
     }
@@ -86,13 +86,13 @@ fn caps_size(job: Job) -> usize
 
 // How many bytes the entries are.
 fn entries_size(places: &[u16]) -> usize
-    requires { ⌜ Short (each entryNumber (now places)) × (length (now places) ≤ SLOTS) ⌝ }
-    ensures { λ r. ⌜ r ≡ length (numeralsOf (each entryNumber (now (places .entry)))) ⌝ }
+    requires { ⌜ Short (each fileEntry (now places)) × (length (now places) ≤ SLOTS) ⌝ }
+    ensures { λ r. ⌜ r ≡ length (numeralsOf (each fileEntry (now (places .entry)))) ⌝ }
 {
     let mut more: u16 = 0;
     let mut g: usize = 0;
     while g < places.len() {
-        let x = entry_number(places[g]);
+        let x = file_entry(places[g]);
         more = more + tables::parts::one_if(128 <= x);
         g = g + 1;
     }

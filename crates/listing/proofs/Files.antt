@@ -27,7 +27,7 @@ use Rattle.parsing.proofs.Files.{answer-number}
 use Rattle.texts.specs.Lines.{refusedLine}
 use Rattle.runtexts.specs.RunText.{FILE, runText}
 use Rattle.listing.specs.Listing.{ENOUGH, programChecks, fileHeld, listing, handedOver, printed}
-use Rattle.texts.specs.parts.Writing.{Room}
+use Rattle.texts.specs.parts.Writing.{Reaches}
 use Rattle.answers.specs.declared.SizeAnswer.{SizeAnswer}
 use Rattle.texts.proofs.Lines.{refused-small}
 use Rattle.listing.proofs.Refusals.{number-most}
@@ -77,7 +77,7 @@ module _ (file : List ℕ) where
   ]
 
   -- so it fits into a buffer of that length
-  pub listing-room : (out : List ℕ) → ENOUGH ≤ length out → Room (listing file) 0 out
+  pub listing-room : (out : List ℕ) → ENOUGH ≤ length out → Reaches (listing file) 0 out
   listing-room out h = omega (arith, listing-enough)
 
   -- and the call then gives 0 and writes all of it

@@ -112,7 +112,7 @@ module _ {racks : List Rack} {places : List ℕ} {m : Pair} (l : Legal racks pla
         | no a ↦ elim (ℕ-discrete j (m .1)) [ yes q ↦ rw (q, none-to, moved .at-to, e) | no b ↦ rw (moved .other j a b) ]
       ]))
 
-  -- a card and a free slot stay so, where they share no end with the pair moved
+  -- a card and a free slot stay so, where they are neither source nor target of the pair moved
   pub free-kept : {n : Pair} → Apart m n → ToFree racks places n → ToFree racks (movedPlaces m places) n
   free-kept {n} d h =
       let q = free-disjoint f h d in
@@ -190,7 +190,7 @@ module _ {racks : List Rack} {places : List ℕ} {m : Pair} (l : Legal racks pla
     ]
   ]
 
-  -- an allowed pair that shares no end with the pair moved stays allowed
+  -- an allowed pair stays allowed, where its source and its target are not those of the pair moved
   pub allowed-kept : {n : Pair} → Apart m n → Allowed racks places n → Allowed racks (movedPlaces m places) n
   unfolding rackTo
   allowed-kept {n} d b =

@@ -16,6 +16,6 @@ pub record Allowed (racks : List Rack) (places : List ℕ) (m : Pair) : Type 0 w
   pub is-free : free places (m .1) ≡ true
   pub meets : rackOf racks (m .1) ≡ rackTo racks places (m .0)
 
--- two pairs share no end
+-- two pairs have different sources, and different targets
 abbrev pub Apart : Pair → Pair → Type 0
 Apart m n = (m .0 ≢ n .0) × (m .1 ≢ n .1)

@@ -23,7 +23,7 @@ use Rattle.numerals.specs.Numeral.{Numerals, numerals}
 use Rattle.numerals.proofs.Numerals.{reading}
 use Rattle.parsing.specs.File.{wrongN, wrongB, wrongM, wrongEntry, entryOf, readN, readB, readM, readEntries, fileRacks, fileBytes, filePlaces, fileCards, fileChecks}
 use Rattle.jobwriter.proofs.Files.{file-most}
-use Rattle.jobwriter.specs.Writing.{numeralOf, entryNumber, fileNumbers, fileFor}
+use Rattle.jobwriter.specs.Writing.{numeralOf, fileEntry, fileNumbers, fileFor}
 use Rattle.roundtrip.specs.parts.Reading.{Passing, jobsFile, ReadBack}
 use Rattle.roundtrip.proofs.Numerals.{behind, numerals-at, four-parts}
 use Rattle.roundtrip.proofs.Tables.{each-back, caps-back, entry-back, one-clear, number-small, number-passes, caps-pass}
@@ -85,7 +85,7 @@ module _ (caps : List ℕ) (b : ℕ) (places cards : List ℕ) (ok : Passed (ofC
 
   -- its entries, as the file has them
   abbrev numbers : List ℕ
-  numbers = each entryNumber places
+  numbers = each fileEntry places
 
   -- its file
   abbrev file : List ℕ
@@ -141,15 +141,15 @@ module _ (caps : List ℕ) (b : ℕ) (places cards : List ℕ) (ok : Passed (ofC
   -- the entries pass
   entries-pass : Passing (wrongEntry racks) [] numbers
   entries-pass k l =
-      let m : k < length places = omega (arith, length-each entryNumber places) in
-      rw (getD-each entryNumber places k 0 0 m, read-dest places k m) (omega (arith, number-small racks small places k (ok .entries k m)), number-passes racks small places k (ok .entries k m) (take k numbers))
+      let m : k < length places = omega (arith, length-each fileEntry places) in
+      rw (getD-each fileEntry places k 0 0 m, read-dest places k m) (omega (arith, number-small racks small places k (ok .entries k m)), number-passes racks small places k (ok .entries k m) (take k numbers))
 
   -- and are read last
   entries-taken : Taken (readEntries file) file numbers cards
   unfolding readEntries
   entries-taken =
       subst (λ (r : List Rack). Taken (numerals (wrongEntry r) (slots r) file (readM file .place) []) file numbers cards) (sym racks-are)
-      (taken (wrongEntry racks) (slots racks) numbers file (readM file .place) cards (sym (length-each entryNumber places ∙ ok .named)) entries-pass (M-taken .left))
+      (taken (wrongEntry racks) (slots racks) numbers file (readM file .place) cards (sym (length-each fileEntry places ∙ ok .named)) entries-pass (M-taken .left))
 
   -- so is B
   bytes-back : fileBytes file ≡ b
@@ -159,7 +159,7 @@ module _ (caps : List ℕ) (b : ℕ) (places cards : List ℕ) (ok : Passed (ofC
   -- so is the places table
   places-back : filePlaces file ≡ places
   unfolding filePlaces
-  places-back = ap (each entryOf) (entries-taken .are) ∙ each-back entryNumber entryOf 0 places (λ k l. entry-back (getD places k 0))
+  places-back = ap (each entryOf) (entries-taken .are) ∙ each-back fileEntry entryOf 0 places (λ k l. entry-back (getD places k 0))
 
   -- and so are the card bytes
   cards-back : fileCards file ≡ cards

@@ -24,7 +24,7 @@ use Rattle.racks.proofs.Legal.{entry-cases}
 use Rattle.parsing.specs.File.{wrongM, wrongEntry, entryOf}
 use Rattle.parsing.proofs.Capacities.{size-users, size-total}
 use Rattle.parsing.proofs.Entries.{wrong-same}
-use Rattle.jobwriter.specs.Writing.{entryNumber, capOf}
+use Rattle.jobwriter.specs.Writing.{fileEntry, capOf}
 use Rattle.roundtrip.specs.parts.Reading.{Passing}
 
 -- each there and back again
@@ -39,16 +39,16 @@ unfolding ofCaps
 caps-back caps = each-back oneSpare capOf 0 caps (λ k l. refl)
 
 -- an entry of the table, written and read
-pub entry-back : (x : ℕ) → entryOf (entryNumber x) ≡ x
-unfolding entryOf entryNumber
+pub entry-back : (x : ℕ) → entryOf (fileEntry x) ≡ x
+unfolding entryOf fileEntry
 entry-back x = elim (ℕ-discrete x FREE) [
   | yes e ↦ rw e
   | no f ↦ let s : x + 1 - 1 ≡ x = omega arith in rw (ne-eqb x FREE f, ne-eqb (x + 1) 0 (λ z. omega arith), s)
 ]
 
 -- a number of the file, read and written
-pub number-back : (x : ℕ) → x ≤ 4096 → entryNumber (entryOf x) ≡ x
-unfolding entryOf entryNumber
+pub number-back : (x : ℕ) → x ≤ 4096 → fileEntry (entryOf x) ≡ x
+unfolding entryOf fileEntry
 number-back x l = elim (ℕ-discrete x 0) [
   | yes e ↦ rw e
   | no f ↦ let s : x - 1 + 1 ≡ x = omega arith in rw (ne-eqb x 0 f, ne-eqb (x - 1) FREE (λ z. omega arith), s)
@@ -61,15 +61,15 @@ one-clear b n e = first-later b n [] e ∙ first-none
 -- an entry of the table that passes
 module _ (racks : List Rack) (small : slots racks ≤ 4096) (places : List ℕ) (g : ℕ) (ok : badEntry racks places g ≡ false) where
   -- is written as at most 4,096
-  pub number-small : entryNumber (dest places g) ≤ 4096
-  unfolding entryNumber
+  pub number-small : fileEntry (dest places g) ≤ 4096
+  unfolding fileEntry
   number-small = entry-cases racks places g ok (λ e. rw e (omega arith)) (λ f u. rw (ne-eqb (dest places g) FREE f) (omega (arith, user-lt racks (dest places g) u)))
 
   -- and passes when it is read
-  pub number-passes : (before : List ℕ) → wrongEntry racks before (entryNumber (dest places g)) ≡ 0
+  pub number-passes : (before : List ℕ) → wrongEntry racks before (fileEntry (dest places g)) ≡ 0
   unfolding wrongEntry badEntry free
   number-passes before =
-      one-clear _ 5 (wrong-same racks (entryNumber (dest places g)) number-small ∙ ap (λ (v : ℕ). not (eqb v FREE or isUser racks v)) (entry-back (dest places g)) ∙ ok)
+      one-clear _ 5 (wrong-same racks (fileEntry (dest places g)) number-small ∙ ap (λ (v : ℕ). not (eqb v FREE or isUser racks v)) (entry-back (dest places g)) ∙ ok)
 
 -- capacities in order
 module _ (caps : List ℕ) (good : badSize (ofCaps caps) ≡ false) where

@@ -9,7 +9,7 @@ use Rattle.counting.specs.Checks.{first}
 use Rattle.racks.specs.Racks.{slots}
 use Rattle.parsing.specs.File.{wrongN, wrongB, wrongM, wrongEntry, entryOf, readN, readB, readM, readEntries, fileRacks, fileBytes, filePlaces, fileCards, fileChecks}
 use Rattle.parsing.proofs.Legal.{numerals-length, Accepted, accepted, racks-N, entries-length, entry-right, entry-small}
-use Rattle.jobwriter.specs.Writing.{numeralOf, entryNumber, capOf, fileNumbers, fileFor}
+use Rattle.jobwriter.specs.Writing.{numeralOf, fileEntry, capOf, fileNumbers, fileFor}
 use Rattle.roundtrip.specs.RoundTrip.{Bytes}
 use Rattle.roundtrip.proofs.Numerals.{four-parts}
 use Rattle.roundtrip.proofs.Tables.{each-back, caps-back, number-back}
@@ -39,10 +39,10 @@ module _ (file : List ℕ) (a : Accepted file) where
   caps-are = caps-back (readM file .values)
 
   -- the entries
-  entries-are : each entryNumber (filePlaces file) ≡ readEntries file .values
+  entries-are : each fileEntry (filePlaces file) ≡ readEntries file .values
   unfolding filePlaces
   entries-are =
-      each-back entryOf entryNumber 0 (readEntries file .values)
+      each-back entryOf fileEntry 0 (readEntries file .values)
       (λ k l. let x = getD (readEntries file .values) k 0 in number-back x (entry-small file a x (entry-right file a k (omega (arith, entries-length file a)))))
 
   -- the numbers that are written are those that were read

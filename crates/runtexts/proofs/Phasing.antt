@@ -10,7 +10,7 @@ use Rattle.counting.specs.Lists.{Pair, tabulate, join}
 use Rattle.counting.proofs.Lists.{join-append, getD-tabulate, length-tabulate, tabulate-is}
 use Rattle.carrying.proofs.Flat.{pairs-between}
 use Rattle.texts.specs.Lines.{phaseLine, phaseLines}
-use Rattle.texts.specs.parts.Writing.{Room, Wrote}
+use Rattle.texts.specs.parts.Writing.{Reaches, Wrote}
 use Rattle.carrying.specs.parts.Carrying.{pairsIn}
 use Rattle.gathering.specs.parts.Gathered.{ENDS, LOG, Logged}
 use Rattle.runtexts.specs.parts.Logs.{madeBefore, phaseIn, phasesIn, Readable}
@@ -81,7 +81,7 @@ module _ (n : ℕ) (log : List ℕ) (j : ℕ) (h : j < n) {out before : List ℕ
       rw (e, phase-lines (j + 1) (phaseIn log j) (drop (suc j) (tabulate n (phaseIn log)))) at l
 
   -- the line of phase j fits
-  pub line-room : Room (phaseLines 1 (phasesIn n log)) 0 before → Room (phaseLine (j + 1) (phaseIn log j)) at out
+  pub line-room : Reaches (phaseLines 1 (phasesIn n log)) 0 before → Reaches (phaseLine (j + 1) (phaseIn log j)) at out
   line-room room = room-first (phaseLine (j + 1) (phaseIn log j)) (phaseLines (suc (j + 1)) (drop (suc j) (phasesIn n log))) out at (left-room this-line room)
 
   -- it is written

@@ -32,7 +32,7 @@ use Rattle.runs.specs.parts.Ran.{phaseCounts, Ran}
 use Rattle.runs.proofs.Gathering.{all-counted, all-few}
 use Rattle.gathering.proofs.Ending.{ends-chained, ends-long, ends-none, ends-ran}
 use Rattle.texts.specs.Lines.{phaseLines, copiesLine, cardsLine, endLine}
-use Rattle.texts.specs.parts.Writing.{Room, Wrote}
+use Rattle.texts.specs.parts.Writing.{Reaches, Wrote}
 use Rattle.texts.proofs.Writing.{room-first, room-next, wrote-then}
 use Rattle.runtexts.specs.RunText.{runText}
 use Rattle.runtexts.specs.parts.Logs.{phasesIn, Readable}
@@ -56,12 +56,12 @@ pub record Runs (racks : List Rack) (b : ℕ) (h : Held) (out : List ℕ) : Type
   pub spared : Spared racks
   pub small : slots racks ≤ 4096
   pub long : length (h .cards) ≡ slots racks * b
-  pub room : Room (runText racks b h) 0 out
+  pub reaches : Reaches (runText racks b h) 0 out
 
 -- by the job
 pub runs-first : {job : Job} {b : ℕ} {h : Held} {out racking : List ℕ} → Open job (h .places) racking → Spared (racksOf job)
-    → length (h .cards) ≡ slots (racksOf job) * b → Room (runText (racksOf job) b h) 0 out → Runs (racksOf job) b h out
-runs-first o spared long room = record { legal = o .legal; spared = spared; small = o .sound .small; long = long; room = room }
+    → length (h .cards) ≡ slots (racksOf job) * b → Reaches (runText (racksOf job) b h) 0 out → Runs (racksOf job) b h out
+runs-first o spared long room = record { legal = o .legal; spared = spared; small = o .sound .small; long = long; reaches = room }
 
 -- the parts of that text, each behind the one before it
 module _ {racks : List Rack} {b : ℕ} {h : Held} {out : List ℕ} (r : Runs racks b h out) where
@@ -77,15 +77,15 @@ module _ {racks : List Rack} {b : ℕ} {h : Held} {out : List ℕ} (r : Runs rac
   abbrev end-part : List ℕ
   end-part = endLine (counts racks b h)
 
-  three-room : Room (phases-part ++ copies-part ++ cards-part) 0 out
+  three-room : Reaches (phases-part ++ copies-part ++ cards-part) 0 out
   unfolding runText
-  three-room = room-first (phases-part ++ copies-part ++ cards-part) end-part out 0 (r .room)
+  three-room = room-first (phases-part ++ copies-part ++ cards-part) end-part out 0 (r .reaches)
 
-  two-room : Room (phases-part ++ copies-part) 0 out
+  two-room : Reaches (phases-part ++ copies-part) 0 out
   two-room = room-first (phases-part ++ copies-part) cards-part out 0 three-room
 
   -- the phases
-  pub phases-room : Room (phaseLines 1 (phases racks (h .places))) 0 out
+  pub phases-room : Reaches (phaseLines 1 (phases racks (h .places))) 0 out
   phases-room = room-first phases-part copies-part out 0 two-room
 
   module _ {h₁ : Held} {t : Tally} {log : List ℕ} (p : PhasesMade racks b h h₁ t log) where
@@ -105,7 +105,7 @@ module _ {racks : List Rack} {b : ℕ} {h : Held} {out : List ℕ} (r : Runs rac
     read-is : LOG ≤ length log → phaseLines 1 (phasesIn (t .phases) log) ≡ phases-part
     read-is full = ap (phaseLines 1) (logged-phases (p .logged) full (t .phases) count-is)
 
-    pub read-room : LOG ≤ length log → Room (phaseLines 1 (phasesIn (t .phases) log)) 0 out
+    pub read-room : LOG ≤ length log → Reaches (phaseLines 1 (phasesIn (t .phases) log)) 0 out
     read-room full = rw (read-is full) phases-room
 
     -- what they leave can be shuffled
@@ -131,7 +131,7 @@ module _ {racks : List Rack} {b : ℕ} {h : Held} {out : List ℕ} (r : Runs rac
       one-wrote = rw (read-is full) at w₁
 
       -- the copies
-      pub copies-room : Room (copiesLine (copyList (h₁ .places))) p₁ out₁
+      pub copies-room : Reaches (copiesLine (copyList (h₁ .places))) p₁ out₁
       copies-room = rw copies-are (room-next copies-part one-wrote two-room)
 
       module _ {out₂ : List ℕ} {p₂ : ℕ} (w₂ : Wrote (copiesLine (copyList (h₁ .places))) out₁ p₁ out₂ p₂)
@@ -155,7 +155,7 @@ module _ {racks : List Rack} {b : ℕ} {h : Held} {out : List ℕ} (r : Runs rac
         cards-are = rw places-long (ap (λ (x : Held). cardsLine (slots racks) b (x .cards)) (ended .held-is))
 
         -- the cards
-        pub cards-room : Room (cardsLine (length places′) b cards′) p₂ out₂
+        pub cards-room : Reaches (cardsLine (length places′) b cards′) p₂ out₂
         cards-room = rw cards-are (room-next cards-part two-wrote three-room)
 
         module _ {out₃ : List ℕ} {p₃ : ℕ} (w₃ : Wrote (cardsLine (length places′) b cards′) out₂ p₂ out₃ p₃) where
@@ -166,9 +166,9 @@ module _ {racks : List Rack} {b : ℕ} {h : Held} {out : List ℕ} (r : Runs rac
           end-is = ap endLine (ended .tally-is)
 
           -- the end
-          pub end-room : Room (endLine after) p₃ out₃
+          pub end-room : Reaches (endLine after) p₃ out₃
           unfolding runText
-          end-room = rw end-is (room-next end-part three-wrote (r .room))
+          end-room = rw end-is (room-next end-part three-wrote (r .reaches))
 
           -- all of it is written
           pub run-wrote : {out₄ : List ℕ} {p₄ : ℕ} → Wrote (endLine after) out₃ p₃ out₄ p₄ → Wrote (runText racks b h) out 0 out₄ p₄

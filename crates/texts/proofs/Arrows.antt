@@ -13,7 +13,7 @@ use Rattle.carrying.specs.parts.Carrying.{pairsIn, Slots, AllSlots}
 use Rattle.carrying.proofs.Flat.{pairs-more, pairs-none}
 use Rattle.texts.specs.Text.{text, decimal}
 use Rattle.texts.specs.Lines.{slotText, arrow}
-use Rattle.texts.specs.parts.Writing.{Room, Wrote}
+use Rattle.texts.specs.parts.Writing.{Reaches, Wrote}
 use Rattle.texts.proofs.Writing.{Left, room-first, left-room, left-next, left-done}
 use Rattle.texts.proofs.Digits.{length-decimal-5}
 
@@ -63,7 +63,7 @@ module _ (list : List ℕ) (i high : ℕ) (fits : high ≤ length list) where
 
   module _ {words l m : List ℕ} {start at : ℕ} (left : Left (join (each arrow (pairsIn list i high))) m at words l start) where
     -- the first arrow that is left fits
-    pub arrow-room : i + 2 ≤ high → Room words start l → Room (arrow (getD list i 0, getD list (i + 1) 0)) at m
+    pub arrow-room : i + 2 ≤ high → Reaches words start l → Reaches (arrow (getD list i 0, getD list (i + 1) 0)) at m
     arrow-room h room =
         room-first (arrow (getD list i 0, getD list (i + 1) 0)) (join (each arrow (pairsIn list (i + 2) high))) m at
         (left-room (rw (arrows-more h) at left) room)

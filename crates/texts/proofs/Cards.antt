@@ -13,7 +13,7 @@ use Rattle.moves.specs.Blocks.{block}
 use Rattle.moves.proofs.Blocks.{below, block-at, block-long}
 use Rattle.texts.specs.Text.{hex}
 use Rattle.texts.specs.Lines.{cardText}
-use Rattle.texts.specs.parts.Writing.{Room, Wrote}
+use Rattle.texts.specs.parts.Writing.{Reaches, Wrote}
 use Rattle.texts.proofs.Writing.{Left, room-first, wrote-length, wrote-then, left-first, left-room, left-next, left-done}
 use Rattle.texts.proofs.Digits.{length-hex}
 
@@ -56,7 +56,7 @@ module _ (b g : ℕ) (cards : List ℕ) (fits : g * b + b ≤ length cards) wher
 
   module _ (j : ℕ) {words l m : List ℕ} {start at : ℕ} (left : Left (hexes b g cards j) m at words l start) where
     -- the first byte that is left fits
-    pub byte-room : j < b → Room words start l → Room (hex (getD cards (g * b + j) 0)) at m
+    pub byte-room : j < b → Reaches words start l → Reaches (hex (getD cards (g * b + j) 0)) at m
     byte-room h room = room-first (hex (getD cards (g * b + j) 0)) (hexes b g cards (j + 1)) m at (left-room (rw (hexes-more j h) at left) room)
 
     -- it is written
@@ -88,7 +88,7 @@ module _ (b : ℕ) (cards : List ℕ) where
 
   module _ {l m : List ℕ} {start at : ℕ} (g : ℕ) (w : Wrote (join (tabulate g (cardText b cards))) l start m at) where
     -- the next slot's text fits
-    pub card-room : (s : ℕ) → length cards ≡ s * b → g < s → Room (join (tabulate s (cardText b cards))) start l → Room (cardText b cards g) at m
+    pub card-room : (s : ℕ) → length cards ≡ s * b → g < s → Reaches (join (tabulate s (cardText b cards))) start l → Reaches (cardText b cards g) at m
     card-room s sized h room =
         omega (
           arith,

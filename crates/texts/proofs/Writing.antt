@@ -6,10 +6,10 @@ use native.Mathlib.Omega.{arith}
 use lib.ListN.{length, take, getD, set, length-append}
 use lib.Seq.{sets, length-sets, take-all}
 use Rattle.counting.proofs.Stores.{sets-append, sets-take}
-use Rattle.texts.specs.parts.Writing.{Room, Wrote}
+use Rattle.texts.specs.parts.Writing.{Reaches, Wrote}
 
 -- what fits, its first part fits
-pub room-first : (a b l : List ℕ) (i : ℕ) → Room (a ++ b) i l → Room a i l
+pub room-first : (a b l : List ℕ) (i : ℕ) → Reaches (a ++ b) i l → Reaches a i l
 room-first a b l i h = omega (arith, length-append a b)
 
 module _ {a l m : List ℕ} {i j : ℕ} where
@@ -18,7 +18,7 @@ module _ {a l m : List ℕ} {i j : ℕ} where
   wrote-length w = ap length (w .stored) ∙ length-sets l i a
 
   -- what fits, its second part fits behind the first
-  pub room-next : (b : List ℕ) → Wrote a l i m j → Room (a ++ b) i l → Room b j m
+  pub room-next : (b : List ℕ) → Wrote a l i m j → Reaches (a ++ b) i l → Reaches b j m
   room-next b w h = omega (arith, length-append a b, wrote-length w, w .behind)
 
   -- text, and then other text behind it
@@ -40,7 +40,7 @@ left-first words l i = record { to-store = refl; to-end = refl; kept = refl }
 
 module _ {words l m : List ℕ} {i j : ℕ} where
   -- what is left fits
-  pub left-room : {rest : List ℕ} → Left rest m j words l i → Room words i l → Room rest j m
+  pub left-room : {rest : List ℕ} → Left rest m j words l i → Reaches words i l → Reaches rest j m
   left-room left h = omega (arith, left .to-end, left .kept)
 
   -- the first part of what is left is written

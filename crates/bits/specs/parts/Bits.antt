@@ -84,12 +84,12 @@ pub record Walking (words : List ℕ) (t at rest : ℕ) : Type 0 where
   pub ahead : (k : ℕ) → t ≤ at + k → (at + k) / 64 ≡ at / 64 → bitOn rest k ≡ isOn words (at + k)
   pub over : (k : ℕ) → at / 64 < (at + k) / 64 → bitOn rest k ≡ false
 
--- a word behind that of `at` has number k of the set
+-- a word behind that of `at` has a member of the set
 pub record Later (words : List ℕ) (at : ℕ) : Type 0 where
-  pub k : ℕ
-  pub behind : (at / 64 + 1) * 64 ≤ k
-  pub within : k < NUMBERS
-  pub on : isOn words k ≡ true
+  pub member : ℕ
+  pub behind : (at / 64 + 1) * 64 ≤ member
+  pub within : member < NUMBERS
+  pub on : isOn words member ≡ true
 
 -- a walk can go on: something of the word is left, or a later one has a number
 pub record Onward (words : List ℕ) (at rest : ℕ) : Type 0 where

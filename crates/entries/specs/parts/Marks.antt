@@ -14,7 +14,7 @@ use Rattle.racks.specs.Table.{names}
 use Rattle.racks.specs.Numbers.{entryChecks}
 
 -- the list has the value from low up to high, elsewhere what it had, and its length
-pub record Between (low high value : ℕ) (before after : List ℕ) : Type 0 where
+pub record FilledFrom (low high value : ℕ) (before after : List ℕ) : Type 0 where
   pub inside : (g : ℕ) → low ≤ g → g < high → getD after g 0 ≡ value
   pub below : (g : ℕ) → g < low → getD after g 0 ≡ getD before g 0
   pub above : (g : ℕ) → high ≤ g → low ≤ g → getD after g 0 ≡ getD before g 0

@@ -12,7 +12,7 @@ use Rattle.racks.specs.Job.{racksOf, Sound}
 use Rattle.racks.specs.declared.Job.{Job}
 use Rattle.tables.specs.parts.Tables.{cardsNumber}
 use Rattle.answers.specs.Answers.{Sized, sized}
-use Rattle.jobwriter.specs.Writing.{numeralsOf, entryNumber, fileFor}
+use Rattle.jobwriter.specs.Writing.{numeralsOf, fileEntry, fileFor}
 
 -- numbers of at most two groups
 abbrev pub Short : List ℕ → Type 0
@@ -33,7 +33,7 @@ Roomy xs at out = at + length (numeralsOf xs) + 1 ≤ length out
 pub record Writable (job : Job) (b : ℕ) (places : List ℕ) : Type 0 where
   pub sound : Sound job
   pub bytes : b ≤ BYTES
-  pub short : Short (each entryNumber places)
+  pub short : Short (each fileEntry places)
   pub few : length places ≤ SLOTS
 
 -- the number of the writer, by a job: that of the table and its cards, then 19

@@ -14,7 +14,7 @@ ghost use Rattle.factors.specs.Copies.{copyList};
 ghost use Rattle.factors.specs.parts.Chains.{Chained};
 ghost use Rattle.factors.specs.parts.Walks.{LISTED, SomeMarked, Unmarked};
 ghost use Rattle.texts.specs.Lines.{copiesLine};
-ghost use Rattle.texts.specs.parts.Writing.{Room, Wrote};
+ghost use Rattle.texts.specs.parts.Writing.{Reaches, Wrote};
 ghost use Rattle.runtexts.specs.RunText.{FILE, runText};
 use crate::parts::phasing;
 use answers::Tally;
@@ -31,7 +31,7 @@ pub fn put_copy_list(
     seen: &mut [u8; Job::MAX_SLOTS],
     list: &mut [u16],
 ) -> usize
-    requires { ⌜ Chained (now places) × Unmarked (now places) LISTED (now seen) × (2 * length (copyList (now places)) ≤ length (now list)) × Room (copiesLine (copyList (now places))) at (now out) ⌝ }
+    requires { ⌜ Chained (now places) × Unmarked (now places) LISTED (now seen) × (2 * length (copyList (now places)) ≤ length (now list)) × Reaches (copiesLine (copyList (now places))) at (now out) ⌝ }
     ensures text { λ r. ⌜ Wrote (copiesLine (copyList (now (places .entry)))) (now (out .entry)) at (now (out .exit)) r ⌝ }
     ensures marks { λ _. ⌜ SomeMarked LISTED (now (seen .entry)) (now (seen .exit)) ⌝ }
 {
@@ -50,7 +50,7 @@ pub fn put_run(
     cards: &mut [u8],
     racking: &mut [u8; Job::MAX_SLOTS],
 ) -> usize
-    requires { ⌜ Open job (now places) (now racking) × Spared (racksOf job) × (length (now cards) ≡ slots (racksOf job) * b) × (b ≤ BYTES) × Room (runText (racksOf job) b (held (now places) (now cards))) 0 (now out) ⌝ }
+    requires { ⌜ Open job (now places) (now racking) × Spared (racksOf job) × (length (now cards) ≡ slots (racksOf job) * b) × (b ≤ BYTES) × Reaches (runText (racksOf job) b (held (now places) (now cards))) 0 (now out) ⌝ }
     ensures { λ r. ⌜ Wrote (runText (racksOf job) b (held (now (places .entry)) (now (cards .entry)))) (now (out .entry)) 0 (now (out .exit)) r ⌝ }
 {
     let mut log = [0u16; gathering::parts::rounds::LOG];
@@ -65,7 +65,7 @@ pub fn put_run(
 
 // The text of the run of a legal job: its cards are copied, since the file is only lent.
 pub fn put_job(out: &mut [u8], caps: &[u16], b: usize, places: &mut [u16], bytes: &[u8]) -> usize
-    requires { ⌜ (first (cardChecks (ofCaps (now caps)) b (now places) (now bytes)) ≡ 0) × (length (now bytes) ≤ FILE) × Room (runText (ofCaps (now caps)) b (held (now places) (now bytes))) 0 (now out) ⌝ }
+    requires { ⌜ (first (cardChecks (ofCaps (now caps)) b (now places) (now bytes)) ≡ 0) × (length (now bytes) ≤ FILE) × Reaches (runText (ofCaps (now caps)) b (held (now places) (now bytes))) 0 (now out) ⌝ }
     ensures { λ r. ⌜ Wrote (runText (ofCaps (now (caps .entry))) b (held (now (places .entry)) (now (bytes .entry)))) (now (out .entry)) 0 (now (out .exit)) r ⌝ }
 {
     let mut cards = [0u8; texts::FILE];

@@ -6,8 +6,8 @@ use lib.ListN.{length}
 use lib.Seq.{sets}
 
 -- the words fit into the buffer from `at` on
-abbrev pub Room : List ℕ → ℕ → List ℕ → Type 0
-Room words at out = at + length words ≤ length out
+abbrev pub Reaches : List ℕ → ℕ → List ℕ → Type 0
+Reaches words at out = at + length words ≤ length out
 
 -- the words stand in the buffer from `at` on, all else is unchanged, and r is the position behind them
 pub record Wrote (words before : List ℕ) (at : ℕ) (after : List ℕ) (r : ℕ) : Type 0 where

@@ -4,13 +4,13 @@ ghost use lib.ListN.{length};
 ghost use Rattle.counting.specs.Lists.{join, each};
 ghost use Rattle.carrying.specs.parts.Carrying.{pairsIn};
 ghost use Rattle.texts.specs.Lines.{slotText, arrow};
-ghost use Rattle.texts.specs.parts.Writing.{Room, Wrote};
+ghost use Rattle.texts.specs.parts.Writing.{Reaches, Wrote};
 use crate::parts::words;
 use racks::Job;
 
 // A slot, or `h` for the hand.
 pub fn put_slot(out: &mut [u8], at: usize, x: u16) -> usize
-    requires { ⌜ Room (slotText x) at (now out) ⌝ }
+    requires { ⌜ Reaches (slotText x) at (now out) ⌝ }
     ensures { λ r. ⌜ Wrote (slotText x) (now (out .entry)) at (now (out .exit)) r ⌝ }
 {
     if x == Job::HAND {
@@ -21,7 +21,7 @@ pub fn put_slot(out: &mut [u8], at: usize, x: u16) -> usize
 
 // A move or a copy: a space, then from>to.
 pub fn put_arrow(out: &mut [u8], at: usize, from: u16, to: u16) -> usize
-    requires { ⌜ Room (arrow (from, to)) at (now out) ⌝ }
+    requires { ⌜ Reaches (arrow (from, to)) at (now out) ⌝ }
     ensures { λ r. ⌜ Wrote (arrow (from, to)) (now (out .entry)) at (now (out .exit)) r ⌝ }
 {
     let first = words::put_byte(out, at, b' ');
@@ -32,7 +32,7 @@ pub fn put_arrow(out: &mut [u8], at: usize, from: u16, to: u16) -> usize
 
 // The arrows of the pairs that stand in a list from index `low` up to `high`.
 pub fn put_arrows(out: &mut [u8], at: usize, pairs: &[u16], low: usize, high: usize) -> usize
-    requires { ⌜ (low ≤ high) × (high ≤ length (now pairs)) × Room (join (each arrow (pairsIn (now pairs) low high))) at (now out) ⌝ }
+    requires { ⌜ (low ≤ high) × (high ≤ length (now pairs)) × Reaches (join (each arrow (pairsIn (now pairs) low high))) at (now out) ⌝ }
     ensures { λ r. ⌜ Wrote (join (each arrow (pairsIn (now (pairs .entry)) low high))) (now (out .entry)) at (now (out .exit)) r ⌝ }
 {
     let mut next = at;

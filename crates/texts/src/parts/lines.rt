@@ -7,7 +7,7 @@ ghost use Rattle.moves.specs.Blocks.{block};
 ghost use Rattle.carrying.specs.parts.Carrying.{pairsIn};
 ghost use Rattle.texts.specs.Text.{hex};
 ghost use Rattle.texts.specs.Lines.{copiesLine, cardText, cardsLine, endLine, refusedLine, phaseLine};
-ghost use Rattle.texts.specs.parts.Writing.{Room, Wrote};
+ghost use Rattle.texts.specs.parts.Writing.{Reaches, Wrote};
 use crate::parts::arrows;
 use crate::parts::words;
 use answers::Tally;
@@ -21,7 +21,7 @@ pub fn put_phase(
     low: usize,
     high: usize,
 ) -> usize
-    requires { ⌜ (low ≤ high) × (high ≤ length (now pairs)) × Room (phaseLine k (pairsIn (now pairs) low high)) at (now out) ⌝ }
+    requires { ⌜ (low ≤ high) × (high ≤ length (now pairs)) × Reaches (phaseLine k (pairsIn (now pairs) low high)) at (now out) ⌝ }
     ensures { λ r. ⌜ Wrote (phaseLine k (pairsIn (now (pairs .entry)) low high)) (now (out .entry)) at (now (out .exit)) r ⌝ }
 {
     let mut next = words::put_text(out, at, b"phase ");
@@ -33,7 +33,7 @@ pub fn put_phase(
 
 // The line of the copies that stand at the front of a list.
 pub fn put_copies(out: &mut [u8], at: usize, list: &[u16], high: usize) -> usize
-    requires { ⌜ (high ≤ length (now list)) × Room (copiesLine (pairsIn (now list) 0 high)) at (now out) ⌝ }
+    requires { ⌜ (high ≤ length (now list)) × Reaches (copiesLine (pairsIn (now list) 0 high)) at (now out) ⌝ }
     ensures { λ r. ⌜ Wrote (copiesLine (pairsIn (now (list .entry)) 0 high)) (now (out .entry)) at (now (out .exit)) r ⌝ }
 {
     let mut next = words::put_text(out, at, b"copies:");
@@ -43,7 +43,7 @@ pub fn put_copies(out: &mut [u8], at: usize, list: &[u16], high: usize) -> usize
 
 // The bytes of slot g.
 pub fn put_block(out: &mut [u8], at: usize, b: usize, cards: &[u8], g: usize) -> usize
-    requires { ⌜ (g * b + b ≤ length (now cards)) × Room (join (each hex (block b g (now cards)))) at (now out) ⌝ }
+    requires { ⌜ (g * b + b ≤ length (now cards)) × Reaches (join (each hex (block b g (now cards)))) at (now out) ⌝ }
     ensures { λ r. ⌜ Wrote (join (each hex (block b g (now (cards .entry))))) (now (out .entry)) at (now (out .exit)) r ⌝ }
 {
     let low = g * b;
@@ -58,7 +58,7 @@ pub fn put_block(out: &mut [u8], at: usize, b: usize, cards: &[u8], g: usize) ->
 
 // A space, then the bytes of slot g.
 pub fn put_card(out: &mut [u8], at: usize, b: usize, cards: &[u8], g: usize) -> usize
-    requires { ⌜ (g * b + b ≤ length (now cards)) × Room (cardText b (now cards) g) at (now out) ⌝ }
+    requires { ⌜ (g * b + b ≤ length (now cards)) × Reaches (cardText b (now cards) g) at (now out) ⌝ }
     ensures { λ r. ⌜ Wrote (cardText b (now (cards .entry)) g) (now (out .entry)) at (now (out .exit)) r ⌝ }
 {
     let next = words::put_byte(out, at, b' ');
@@ -67,7 +67,7 @@ pub fn put_card(out: &mut [u8], at: usize, b: usize, cards: &[u8], g: usize) -> 
 
 // The bytes of each slot, a space before each.
 pub fn put_slots(out: &mut [u8], at: usize, s: usize, b: usize, cards: &[u8]) -> usize
-    requires { ⌜ (length (now cards) ≡ s * b) × Room (join (tabulate s (cardText b (now cards)))) at (now out) ⌝ }
+    requires { ⌜ (length (now cards) ≡ s * b) × Reaches (join (tabulate s (cardText b (now cards)))) at (now out) ⌝ }
     ensures { λ r. ⌜ Wrote (join (tabulate s (cardText b (now (cards .entry))))) (now (out .entry)) at (now (out .exit)) r ⌝ }
 {
     let mut next = at;
@@ -81,7 +81,7 @@ pub fn put_slots(out: &mut [u8], at: usize, s: usize, b: usize, cards: &[u8]) ->
 
 // The cards line.
 pub fn put_cards(out: &mut [u8], at: usize, s: usize, b: usize, cards: &[u8]) -> usize
-    requires { ⌜ (length (now cards) ≡ s * b) × Room (cardsLine s b (now cards)) at (now out) ⌝ }
+    requires { ⌜ (length (now cards) ≡ s * b) × Reaches (cardsLine s b (now cards)) at (now out) ⌝ }
     ensures { λ r. ⌜ Wrote (cardsLine s b (now (cards .entry))) (now (out .entry)) at (now (out .exit)) r ⌝ }
 {
     let mut next = words::put_text(out, at, b"cards:");
@@ -91,7 +91,7 @@ pub fn put_cards(out: &mut [u8], at: usize, s: usize, b: usize, cards: &[u8]) ->
 
 // The end line: the three counts.
 pub fn put_end(out: &mut [u8], at: usize, tally: Tally) -> usize
-    requires { ⌜ Room (endLine tally) at (now out) ⌝ }
+    requires { ⌜ Reaches (endLine tally) at (now out) ⌝ }
     ensures { λ r. ⌜ Wrote (endLine tally) (now (out .entry)) at (now (out .exit)) r ⌝ }
 {
     let mut next = words::put_text(out, at, b"end: phases ");
@@ -105,7 +105,7 @@ pub fn put_end(out: &mut [u8], at: usize, tally: Tally) -> usize
 
 // The line of a refusal.
 pub fn put_refused(out: &mut [u8], at: usize, number: u8) -> usize
-    requires { ⌜ Room (refusedLine number) at (now out) ⌝ }
+    requires { ⌜ Reaches (refusedLine number) at (now out) ⌝ }
     ensures { λ r. ⌜ Wrote (refusedLine number) (now (out .entry)) at (now (out .exit)) r ⌝ }
 {
     let mut next = words::put_text(out, at, b"refused ");

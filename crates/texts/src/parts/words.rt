@@ -3,11 +3,11 @@ ghost use mathlib.Core.Path.{_≡_};
 ghost use mathlib.Core.List.{[], _∷_};
 ghost use Prim.Native.Nat.{_<_};
 ghost use Rattle.texts.specs.Text.{digit, decimal, hex};
-ghost use Rattle.texts.specs.parts.Writing.{Room, Wrote};
+ghost use Rattle.texts.specs.parts.Writing.{Reaches, Wrote};
 
 // A word, byte by byte.
 pub fn put_text(out: &mut [u8], at: usize, word: &[u8]) -> usize
-    requires { ⌜ Room (now word) at (now out) ⌝ }
+    requires { ⌜ Reaches (now word) at (now out) ⌝ }
     ensures { λ r. ⌜ Wrote (now (word .entry)) (now (out .entry)) at (now (out .exit)) r ⌝ }
 {
     racks::parts::put_bytes(out, at, word);
@@ -16,7 +16,7 @@ pub fn put_text(out: &mut [u8], at: usize, word: &[u8]) -> usize
 
 // One byte.
 pub fn put_byte(out: &mut [u8], at: usize, x: u8) -> usize
-    requires { ⌜ Room (x ∷ []) at (now out) ⌝ }
+    requires { ⌜ Reaches (x ∷ []) at (now out) ⌝ }
     ensures { λ r. ⌜ Wrote (x ∷ []) (now (out .entry)) at (now (out .exit)) r ⌝ }
 {
     out[at] = x;
@@ -36,7 +36,7 @@ fn digit_of(d: u8) -> u8
 
 // A number in decimal: what stands before its last digit, and then that.
 pub fn put_decimal(out: &mut [u8], at: usize, x: usize) -> usize
-    requires { ⌜ Room (decimal x) at (now out) ⌝ }
+    requires { ⌜ Reaches (decimal x) at (now out) ⌝ }
     ensures { λ r. ⌜ Wrote (decimal x) (now (out .entry)) at (now (out .exit)) r ⌝ }
 {
     if x < 10 {
@@ -48,7 +48,7 @@ pub fn put_decimal(out: &mut [u8], at: usize, x: usize) -> usize
 
 // A byte in hexadecimal.
 pub fn put_hex(out: &mut [u8], at: usize, x: u8) -> usize
-    requires { ⌜ Room (hex x) at (now out) ⌝ }
+    requires { ⌜ Reaches (hex x) at (now out) ⌝ }
     ensures { λ r. ⌜ Wrote (hex x) (now (out .entry)) at (now (out .exit)) r ⌝ }
 {
     let next = put_byte(out, at, digit_of(x / 16));

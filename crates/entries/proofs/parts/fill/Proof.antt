@@ -2,12 +2,12 @@ use Rattle.entries.proofs.Fills.{between-none, between-more, between-do
 use borrow.Author.Needs.{needs}
 use native.Mathlib.Omega.{arith}
 use Prim.Native.Nat.{_-_, _≤_, _<_}
-use Rattle.entries.specs.parts.Marks.{Between}
+use Rattle.entries.specs.parts.Marks.{FilledFrom}
 use Rattle.entries.proofs.parts.fill.Statement.{statement}
 use Rattle.entries.proofs.parts.fill.Tie as tie
 
 abbrev Inv-loop : tie.InvT-loop
-Inv-loop list₀ low high value g₀ list g = (low ≤ g) × (low < g → g ≤ high) × Between low g value list₀ list
+Inv-loop list₀ low high value g₀ list g = (low ≤ g) × (low < g → g ≤ high) × FilledFrom low g value list₀ list
 
 abbrev μ-loop : tie.MeasureT-loop
 μ-loop list₀ low high value g₀ list g = high - g
