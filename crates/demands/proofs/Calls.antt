@@ -42,15 +42,14 @@ module _ {racks : List Rack} {b : ℕ} {h : Held} (s : Start racks b h) where
   pub start-long : length (h .cards) ≡ slots racks * b
   start-long = accepted-long racks b (h .places) (h .cards) (s .fits)
 
-  -- moves to free slots lead to another such table
+  -- another legal table with S·B bytes of cards is such a start
+  pub start-legal-again : {h′ : Held} → Legal racks (h′ .places) → length (h′ .cards) ≡ slots racks * b → Start racks b h′
+  start-legal-again {h′} l e =
+      record { spared = s .spared; fits = accepted-again racks b (h .places) (h .cards) (s .fits) (h′ .places) (h′ .cards) l (e ∙ sym start-long) }
+
+  -- moves to free slots lead to another
   pub start-moving : {ms : List Pair} → Moving racks (h .places) ms → Start racks b (carried b ms h)
-  start-moving {ms} t =
-      record {
-        spared = s .spared;
-        fits =
-            accepted-again racks b (h .places) (h .cards) (s .fits) (carriedPlaces ms (h .places)) (carriedCards b ms (h .cards)) (legal-carried start-legal t)
-            (length-carried-cards b ms (h .cards));
-      }
+  start-moving {ms} t = start-legal-again (legal-carried start-legal t) (length-carried-cards b ms (h .cards) ∙ start-long)
 
   -- so do moves that are allowed in turn
   pub start-carried : {ms : List Pair} → InTurn racks (h .places) ms → Start racks b (carried b ms h)

@@ -11,7 +11,7 @@ use borrow.Author.Tests.{ne-eqb}
 use Rattle.counting.specs.Lists.{Pair}
 use Rattle.counting.specs.Checks.{first}
 use Rattle.counting.proofs.Stores.{take-front}
-use Rattle.racks.specs.Racks.{Rack, ofCaps, base, slots, rackOf}
+use Rattle.racks.specs.Racks.{Rack, base, slots, rackOf}
 use Rattle.racks.proofs.Caps.{length-caps, users-caps, slots-caps}
 use Rattle.racks.proofs.Geometry.{rack-lt, rack-in, rack-is}
 use Rattle.tables.specs.Check.{checked}
@@ -38,7 +38,7 @@ use Rattle.demands.specs.Accepted.{Accepted}
 use Rattle.demands.specs.Rows.{None, Holds, Given, _then_}
 use Rattle.demands.specs.FileConditions.{fileRows, NoRoom, FileTooLarge}
 use Rattle.demands.specs.Demand1.{Demand1}
-use Rattle.demands.proofs.Acceptance.{accepted-legal, accepted-table}
+use Rattle.demands.proofs.Acceptance.{accepted-legal}
 use Rattle.demands.proofs.Rows.{given-none, given-row, holds-some, none-left, none-right}
 use Rattle.demands.proofs.Says.{says-or, says-lt, says-user, says-7, says-12, says-short}
 use Rattle.demands.proofs.CallRows.{given-table, given-cards, given-table-only, given-cards-only, given-ends}
@@ -115,11 +115,6 @@ accepted-read file caps places z =
       take-front places (filePlaces file) (slots (fileRacks file)) long (not-below (λ l. room (inr l))),
     ) a
 
--- and what is accepted with its cards passes the table check
-passes-check : (caps : List ℕ) (b : ℕ) (h : Held) → Accepted caps b h → checked (ofCaps caps) (h .places) .number ≡ 0
-unfolding checked
-passes-check caps b h a = accepted-table (ofCaps caps) b (h .places) (h .cards) a
-
 -- the number of a job read from a reader's place on
 given-job : (reader : Reader) (caps places : List ℕ) (job : JobFile) (caps′ places′ : List ℕ) → JobRead reader caps places job caps′ places′
     → Given (job .answer .number) (fileRows (ahead reader) then (17, NoRoom (ahead reader) caps places) ∷ [])
@@ -157,7 +152,6 @@ demand1 =
       run-no-refusal = no-refusal;
       shelve-runs = runs;
       read-accepted = accepted-read;
-      accepted-check = passes-check;
       capacities = λ caps. (length-caps caps, slots-caps caps);
       users-lent = users-caps;
       rack = rack-of;

@@ -5,15 +5,14 @@ use Prim.Native.Nat.{ℕ, _≤_}
 use lib.ListN.{length, take}
 use lib.Seq.{take-length}
 use Rattle.counting.specs.Lists.{Pair, join}
-use Rattle.racks.specs.Racks.{Rack, ofCaps, slots}
+use Rattle.racks.specs.Racks.{Rack, slots}
 use Rattle.racks.specs.Table.{aways}
 use Rattle.racks.proofs.LegalTable.{spared-caps}
 use Rattle.moves.specs.Moves.{Held, carried}
 use Rattle.moves.specs.Phases.{phases}
 use Rattle.factors.specs.Copies.{copyList}
 use Rattle.runs.specs.Run.{gathered}
-use Rattle.demands.specs.Accepted.{Accepted}
-use Rattle.demands.specs.Demand2.{Shuffle, Demand2}
+use Rattle.demands.specs.Demand2.{Shuffle, Demand2, Demand2Holds}
 use Rattle.demands.proofs.Acceptance.{accepted-small}
 use Rattle.demands.proofs.Calls.{Start}
 use Rattle.demands.proofs.Phases.{plan-phase, phase-is, phase-away}
@@ -48,5 +47,5 @@ from-start {racks} {b} {h} s small =
     }
 
 -- **Demand 2.** Every accepted job
-pub demand2 : (caps : List ℕ) (b : ℕ) (h : Held) → Accepted caps b h → Demand2 (ofCaps caps) b h
+pub demand2 : Demand2Holds
 demand2 caps b h z = from-start (record { spared = spared-caps caps; fits = z }) (accepted-small caps b (h .places) (h .cards) z)

@@ -6,14 +6,13 @@ use native.Mathlib.Omega.{arith}
 use lib.ListN.{length, take}
 use lib.Seq.{take-length, take-at}
 use Rattle.counting.specs.Lists.{Pair}
-use Rattle.racks.specs.Racks.{Rack, ofCaps}
+use Rattle.racks.specs.Racks.{Rack}
 use Rattle.racks.proofs.LegalTable.{spared-caps}
 use Rattle.moves.specs.Moves.{Held, carried}
 use Rattle.moves.proofs.Carry.{in-turn-take, in-turn-moving, stands-carried, owes-carried}
 use Rattle.owed.proofs.Owing.{awaits-owes}
-use Rattle.demands.specs.Accepted.{Accepted}
 use Rattle.demands.specs.Calls.{Call, heldAfter, made}
-use Rattle.demands.specs.Demand3.{Demand3, point}
+use Rattle.demands.specs.Demand3.{Demand3, point, Demand3Holds}
 use Rattle.demands.proofs.Calls.{Start, start-legal, calls-done, start-after, made-append, budget-done, single-done, refused-none, refused-same}
 use Rattle.demands.proofs.Points.{names-once, turn-at, some-accepted, start-point, point-number, point-move, point-away, point-falls, point-bytes}
 
@@ -55,5 +54,5 @@ from-start {racks} {b} {h} calls s =
     }
 
 -- **Demand 3.** Every accepted start, and every list of calls
-pub demand3 : (caps : List ℕ) (b : ℕ) (h : Held) → Accepted caps b h → (calls : List Call) → Demand3 (ofCaps caps) b h calls
+pub demand3 : Demand3Holds
 demand3 caps b h z calls = from-start calls (record { spared = spared-caps caps; fits = z })

@@ -22,3 +22,4 @@ pub mod Runs
 pub mod Demand2
 pub mod Homes
 pub mod RoundTrip
+pub mod Taken

@@ -88,6 +88,30 @@ module _ (more : List Row) where
     holds-either (r ∷ rows) (inl p) = inl (inl p)
     holds-either (r ∷ rows) (inr p) = elim (holds-either rows (p .1)) [ inl q ↦ inl (inr (p .0, q)) | inr q ↦ inr ((p .0, q .0), q .1) ]
 
+-- where no condition of the rows holds, no number is theirs
+none-holds : (n : ℕ) (rows : List Row) → None rows → Holds n rows → ⊥
+unfolding None Holds
+none-holds n [] a h = h
+none-holds n (r ∷ rows) a (inl p) = a .0 (p .1)
+none-holds n (r ∷ rows) a (inr p) = none-holds n rows (a .1) (p .1)
+
+numbered-right : (more rows : List Row) → Numbered (rows ++ more) → Numbered more
+unfolding Numbered
+numbered-right more [] k = k
+numbered-right more (r ∷ rows) k = numbered-right more rows (k .1)
+
+-- and the number is given by those behind them
+pub given-behind : {number : ℕ} (rows more : List Row) → None rows → Given number (rows ++ more) → Given number more
+given-behind rows more a g =
+    record {
+      refused = λ n f. (
+        λ q. elim (holds-either more n rows (g .refused n f .0 q)) [ inl p ↦ absurd (none-holds n rows a p) | inr p ↦ p .1 ],
+        λ h. g .refused n f .1 (holds-right more n rows a h),
+      );
+      done = (λ q. none-right more rows (g .done .0 q), λ h. g .done .1 (none-both more rows a h));
+      numbered = numbered-right more rows (g .numbered);
+    }
+
 -- a number found elsewhere, and more checks where it is 0
 pub given-after : (m : ℕ) (rows : List Row) (cs : List Check) (more : List Row)
     → Given m rows → Numbered more → (m ≡ 0 → Given (first cs) more) → Given (first (refusal m ∷ cs)) (rows ++ more)

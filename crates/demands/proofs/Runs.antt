@@ -1,6 +1,6 @@
 -- The shuffle, the whole run and budgeted moves of an accepted job. Assumes nothing.
 use mathlib.Core.Path.{_≡_, sym, _∙_}
-use mathlib.Core.Bool.{false}
+use mathlib.Core.Bool.{true, false}
 use mathlib.Core.List.{List, []}
 use Prim.Native.Nat.{ℕ, _≤_, min}
 use native.Mathlib.Omega.{arith}
@@ -8,7 +8,7 @@ use lib.ListN.{length, take}
 use Rattle.counting.specs.Lists.{join}
 use Rattle.counting.specs.Checks.{first}
 use Rattle.counting.proofs.Tests.{off}
-use Rattle.counting.proofs.Checks.{first-clear, first-past, first-later, first-none}
+use Rattle.counting.proofs.Checks.{first-clear, first-past, first-here, first-later, first-none}
 use Rattle.racks.specs.Racks.{Rack, slots}
 use Rattle.racks.specs.Table.{aways}
 use Rattle.racks.specs.Numbers.{someAway}
@@ -55,6 +55,12 @@ module _ {racks : List Rack} {b : ℕ} {h : Held} (s : Start racks b h) (small :
           home = rw shuffle-number (settled-home racks b h (start-legal s) small (start-long s));
           copies = rw shuffle-number;
         }
+
+-- where a card is away, the shuffle is refused and changes nothing
+pub shuffle-refused : {racks : List Rack} {b : ℕ} {h : Held} → Start racks b h → someAway racks (h .places) ≡ true → shuffled racks b h .held ≡ h
+unfolding shuffled shuffleChecks
+shuffle-refused {racks} {b} {h} s e =
+    rw (first-past _ (first-clear (cards-marked racks b (h .places) (h .cards)) (s .fits)) ∙ first-here (someAway racks (h .places)) 12 [] e)
 
 module _ {racks : List Rack} {b : ℕ} {h : Held} (s : Start racks b h) (small : slots racks ≤ 4096) where
   -- after all phases the table is accepted

@@ -9,6 +9,8 @@ use Rattle.racks.specs.Racks.{Rack}
 use Rattle.answers.specs.Answers.{answer, movesOf}
 use Rattle.moves.specs.Moves.{Held, Outcome, moved}
 use Rattle.moves.specs.Phases.{budget, budgeted}
+use Rattle.shuffle.specs.Shuffle.{shuffled}
+use Rattle.runs.specs.Run.{ran}
 
 -- a call: a single move with any from and to, or budgeted moves with any k
 pub data Call : Type 0 where
@@ -52,3 +54,20 @@ singles ms = each (λ (m : Pair). single (m .0) (m .1)) ms
 unfoldable pub AllAccepted : List Rack → ℕ → Held → List Pair → Type 0
 AllAccepted racks b h [] = Unit {0}
 AllAccepted racks b h (m ∷ ms) = (moved racks b h m .answer ≡ answer 0 (movesOf 1)) × AllAccepted racks b (moved racks b h m .held) ms
+
+-- any call that changes a table and its cards: single or budgeted moves, the shuffle, a whole run
+pub data CardsCall : Type 0 where
+  moves : Call → CardsCall
+  shuffle : CardsCall
+  run : CardsCall
+
+-- the table and the cards that it leaves
+unfoldable pub leaves : List Rack → ℕ → Held → CardsCall → Held
+leaves racks b h (moves call) = called racks b h call .held
+leaves racks b h shuffle = shuffled racks b h .held
+leaves racks b h run = ran racks b h .held
+
+-- and that any such calls leave, one after another, refused ones among them
+unfoldable pub leftAfter : List Rack → ℕ → List CardsCall → Held → Held
+leftAfter racks b [] h = h
+leftAfter racks b (call ∷ calls) h = leftAfter racks b calls (leaves racks b h call)

@@ -71,11 +71,10 @@ pub record Demand1 : Type 0 where
   pub shelve-refuses : (file : List ℕ) (n : ℕ) → (listing file ≡ refusedLine n) ↔ Holds n ((18, FileTooLarge file) ∷ fileRows file)
   pub run-no-refusal : (racks : List Rack) (b : ℕ) (h : Held) (n : ℕ) → runText racks b h ≢ refusedLine n
   pub shelve-runs : (file : List ℕ) → None ((18, FileTooLarge file) ∷ fileRows file) → listing file ≡ runText (fileRacks file) (fileBytes file) (fileHeld file)
-  -- a file that is read without refusal gives a job that 1 to 6 do not refuse: what the lists hold at their fronts, B and the card bytes
+  -- a file that is read without refusal gives a job that 1 to 6 do not refuse (`Taken` says of such a job that every call takes it): what the lists hold
+  -- at their fronts, B and the card bytes
   pub read-accepted : (file caps places : List ℕ) → read file caps places .answer .number ≡ 0
       → let r = read file caps places in Accepted (take (r .racks) (r .caps)) (r .bytes) (held (take (r .slots) (r .places)) (r .cards))
-  -- and what 1 to 6 do not refuse passes the table check, so that the calls that are lent no cards take it too
-  pub accepted-check : (caps : List ℕ) (b : ℕ) (h : Held) → Accepted caps b h → checked (ofCaps caps) (h .places) .number ≡ 0
   -- the words of the conditions: N and the m_p are those of the capacities lent, S = total + N
   pub capacities : (caps : List ℕ) → (length (ofCaps caps) ≡ length caps) × (slots (ofCaps caps) ≡ total (ofCaps caps) + length caps)
   pub users-lent : (caps : List ℕ) (p : ℕ) → p < length caps → users (ofCaps caps) p ≡ getD caps p 0

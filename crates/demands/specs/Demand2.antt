@@ -18,6 +18,7 @@ use Rattle.factors.specs.Copies.{factor, copyList}
 use Rattle.shuffle.specs.Shuffle.{shuffled}
 use Rattle.shuffle.specs.Home.{Home}
 use Rattle.runs.specs.Run.{ran}
+use Rattle.demands.specs.Accepted.{OfAccepted}
 use Rattle.demands.specs.Calls.{heldAfter, singles, AllAccepted}
 use Rattle.demands.specs.Figure1Loop.{State, recv, alltoall, computeMoves, rounds, goesOn, extra}
 use Rattle.demands.specs.Figure1.{dueTo, figure1, bySlot}
@@ -140,3 +141,7 @@ module _ (racks : List Rack) (b : ℕ) (h : Held) where
     -- budgeted moves make the first k of all these pairs; with a budget of at least the cards away, and then the shuffle, they are the whole run
     pub first-k : (k : ℕ) → budgeted racks b h k ≡ record { answer = answer 0 (movesOf (min k (aways racks (h .places)))); held = carried b (take k (join plans)) h }
     pub by-budget : (k : ℕ) → aways racks (h .places) ≤ k → ran racks b h .held ≡ shuffled racks b (budgeted racks b h k .held) .held
+
+-- **Demand 2**, of every accepted job
+abbrev pub Demand2Holds : Type 0
+Demand2Holds = OfAccepted Demand2

@@ -19,6 +19,7 @@ use Rattle.answers.specs.Answers.{answer, movesOf}
 use Rattle.moves.specs.Blocks.{block}
 use Rattle.moves.specs.Moves.{Held, carried, between, endChecks, moved}
 use Rattle.owed.specs.Awaits.{awaits}
+use Rattle.demands.specs.Accepted.{OfAccepted}
 use Rattle.demands.specs.Calls.{Call, called, makes, heldAfter, made, counted}
 use Rattle.demands.specs.Calls.Call.{single, atMost}
 
@@ -80,3 +81,7 @@ module _ (racks : List Rack) (b : ℕ) (h : Held) (calls : List Call) where
     -- one that is refused makes no move and changes nothing
     pub refused-makes : (call : Call) → called racks b end call .answer .number ≢ 0 → makes racks b end call ≡ []
     pub refused-keeps : (call : Call) → called racks b end call .answer .number ≢ 0 → called racks b end call .held ≡ end
+
+-- **Demand 3**, of every accepted job and every list of calls on it
+abbrev pub Demand3Holds : Type 0
+Demand3Holds = OfAccepted (λ (racks : List Rack) (b : ℕ) (h : Held). (calls : List Call) → Demand3 racks b h calls)

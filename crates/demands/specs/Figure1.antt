@@ -1,4 +1,4 @@
--- The plan as figure 1 of document 001 has it: computeMoves' numbers, and the slots that the scope gives them. Assumes nothing: these are definitions.
+-- The plan as figure 1 of document 001 has it: computeMoves' numbers, and the slots that the rules give them. Assumes nothing: these are definitions.
 use mathlib.Core.List.{List}
 use Prim.Native.Nat.{ℕ}
 use lib.ListN.{length, take}

@@ -1,4 +1,4 @@
--- Every card home by any way: any moves to free slots, then the shuffle; there is one such end, and it is the whole run's.
+-- Every card of an accepted job home by any way: any moves to free slots, then the shuffle; there is one such end, and it is the whole run's.
 -- Assumes nothing: these are statements; `homes` in proofs/Homes proves them.
 use mathlib.Core.Path.{_≡_}
 use mathlib.Core.List.{List}
@@ -12,7 +12,8 @@ use Rattle.moves.specs.Turns.{Moving}
 use Rattle.shuffle.specs.Shuffle.{shuffled}
 use Rattle.shuffle.specs.Home.{Home}
 use Rattle.runs.specs.Run.{ran}
-use Rattle.demands.specs.Calls.{Call, heldAfter}
+use Rattle.demands.specs.Accepted.{OfAccepted}
+use Rattle.demands.specs.Calls.{CardsCall, leftAfter}
 
 -- a job: racks, B, a table and its cards
 module _ (racks : List Rack) (b : ℕ) (h : Held) where
@@ -31,8 +32,12 @@ module _ (racks : List Rack) (b : ℕ) (h : Held) where
     pub one : (x y : Held) → Home racks b h x → Home racks b h y → x ≡ y
     -- so all ways end alike: such moves and the shuffle leave what a whole run leaves
     pub any-moves : (ms : List Pair) → Gathers ms → shuffled racks b (carried b ms h) .held ≡ ran racks b h .held
-    -- after any calls whatever, a whole run leaves what a whole run at the start would have left
-    pub later-run : (calls : List Call) → ran racks b (heldAfter racks b calls h) .held ≡ ran racks b h .held
+    -- after any calls whatever, shuffles and whole runs and refused calls among them, a whole run leaves what a whole run at the start would have left
+    pub later-run : (calls : List CardsCall) → ran racks b (leftAfter racks b calls h) .held ≡ ran racks b h .held
     -- and so do budgeted moves with a budget of at least the cards away, then the shuffle
-    pub later-budget : (calls : List Call) (k : ℕ) → aways racks (heldAfter racks b calls h .places) ≤ k
-        → shuffled racks b (budgeted racks b (heldAfter racks b calls h) k .held) .held ≡ ran racks b h .held
+    pub later-budget : (calls : List CardsCall) (k : ℕ) → aways racks (leftAfter racks b calls h .places) ≤ k
+        → shuffled racks b (budgeted racks b (leftAfter racks b calls h) k .held) .held ≡ ran racks b h .held
+
+-- **Every card home by any way**, of every accepted job
+abbrev pub HomesHold : Type 0
+HomesHold = OfAccepted Homes

@@ -1,4 +1,5 @@
--- Every card home: the shuffle brings it there after any moves to free slots, and there is one such table with its cards. Assumes nothing.
+-- Every card home: the shuffle brings it there after any moves to free slots, there is one such table with its cards, and from there it stays home.
+-- Assumes nothing.
 use mathlib.Core.Path.{_≡_, refl, ap, sym, _∙_}
 use mathlib.Core.Logic.{_≢_}
 use mathlib.Core.List.{List}
@@ -13,7 +14,7 @@ use Rattle.counting.proofs.Count.Found.{here, nowhere}
 use Rattle.counting.proofs.Lists.{length-tabulate}
 use Rattle.racks.specs.Limits.{FREE}
 use Rattle.racks.specs.Racks.{Rack, slots}
-use Rattle.racks.specs.Table.{dest, names}
+use Rattle.racks.specs.Table.{dest, free, names}
 use Rattle.racks.specs.parts.Legal.{Legal}
 use Rattle.racks.proofs.LegalTable.{legal-slot}
 use Rattle.moves.specs.Blocks.{block}
@@ -111,3 +112,46 @@ module _ {racks : List Rack} {b : ℕ} {h x y : Held} (small : slots racks ≤ 4
       let places-are = ext-getD FREE (x .places) (y .places) (u .places-long ∙ sym (v .places-long)) (λ d l. same-slot d (omega (arith, u .places-long)) .0) in
       let cards-are = blocks-ext b (slots racks) (x .cards) (y .cards) (u .cards-long) (v .cards-long) (λ d l. same-slot d l .1) in
       ap (λ (p : List ℕ). held p (x .cards)) places-are ∙ ap (held (y .places)) cards-are
+
+-- a legal table with its cards, and one where all that it holds is home
+module _ {racks : List Rack} {b : ℕ} {h x : Held} (legal : Legal racks (h .places)) (small : slots racks ≤ 4096) (u : Home racks b h x) where
+  -- an entry there names its own slot, and one of h does too; or it is free
+  own-slot : (g d : ℕ) → g < slots racks → dest (x .places) g ≡ d → d ≢ FREE → (d ≡ g) × (k : ℕ) × (k < slots racks) × (dest (h .places) k ≡ d)
+  unfolding names
+  own-slot g d l e f = elim (find (slots racks) (names (h .places) g)) [
+    | here k m t ↦
+        let q : dest (h .places) k ≡ g = eqb-true _ _ t in
+        let same : d ≡ g = sym e ∙ u .self k g m q (λ z. omega arith) in
+        (same, k, m, q ∙ sym same)
+    | nowhere t ↦ absurd (f (sym e ∙ u .none g l (λ k m. eqb-false _ _ (t k m))))
+  ]
+
+  -- so it is legal
+  pub home-legal : Legal racks (x .places)
+  unfolding free
+  home-legal =
+      record {
+        long = u .places-long;
+        named = λ g l t.
+            let o = own-slot g _ l refl (eqb-false _ _ t) in
+            rw (sym (o .3)) (legal .named (o .1) (o .2) (rw (o .3) t));
+        once = λ g k l m t e.
+            let f = eqb-false _ _ t in
+            sym (own-slot g _ l refl f .0) ∙ own-slot k _ m (sym e) f .0;
+      }
+
+  -- and what is home from there is home from the start
+  pub home-again : {y : Held} → Home racks b x y → Home racks b h y
+  home-again v =
+      let in-table : (g d : ℕ) → g < slots racks → dest (h .places) g ≡ d → d ≢ FREE → d < slots racks =
+      λ g d l e f. legal-slot racks (h .places) legal g d (omega (arith, legal .long)) (sym e) f in
+      let still : (d : ℕ) → ((g : ℕ) → g < slots racks → dest (h .places) g ≢ d) → d < slots racks → (g : ℕ) → g < slots racks → dest (x .places) g ≢ d =
+      λ d n l g m e. let o = own-slot g d m e (λ z. omega arith) in n (o .1) (o .2) (o .3) in
+      record {
+        card = λ g d l e f. v .card d d (in-table g d l e f) (u .self g d l e f) f ∙ u .card g d l e f;
+        self = λ g d l e f. v .self d d (in-table g d l e f) (u .self g d l e f) f;
+        zero = λ d l n. v .zero d l (still d n l);
+        none = λ d l n. v .none d l (still d n l);
+        places-long = v .places-long;
+        cards-long = v .cards-long;
+      }
