@@ -75,10 +75,10 @@ extern "C" {
 #endif
 
 /* The version of this header, which is that of the Rust crate beside it. */
-#define SEINEFLUTE_VERSION "0.3.0"
+#define SEINEFLUTE_VERSION "0.3.1"
 #define SEINEFLUTE_VERSION_MAJOR 0
 #define SEINEFLUTE_VERSION_MINOR 3
-#define SEINEFLUTE_VERSION_PATCH 0
+#define SEINEFLUTE_VERSION_PATCH 1
 
 /* Limits. */
 enum {

@@ -98,7 +98,7 @@
 //!
 //! # What is asked of the stack
 //!
-//! There is no heap: a call's tables lie on the caller's stack. What each call
+//! The library has no heap: a call's tables lie on the caller's stack. What each call
 //! takes, measured at the largest jobs, with half a KB to spare, rounded up to whole
 //! KB of 1,024 bytes (`examples/stack.rs` measures anew, and fails where a call takes
 //! more):

@@ -77,13 +77,14 @@ fn every_fault_is_found() {
             fault,
         };
         match first_difference(&Engine, &faulty) {
-            Some(job) => println!("fault {fault:2}: found by random job {job}"),
+            Some((job, _)) => println!("fault {fault:2}: found by random job {job}"),
             None => panic!("fault {fault} is not found"),
         }
     }
 }
 
-/// Where both movers write the same wrong file, reading it tells.
+/// Where both movers write the same wrong file, reading it tells, or writing what was
+/// read.
 #[test]
 fn every_wrong_file_is_found_by_reading_it() {
     for fault in WRONG_FILES {
@@ -92,17 +93,27 @@ fn every_wrong_file_is_found_by_reading_it() {
             fault,
         };
         match first_difference(&faulty, &faulty) {
-            Some(job) => println!("fault {fault:2}: found by reading, random job {job}"),
+            Some((job, what)) => {
+                let said = what.lines().next().unwrap_or_default();
+                assert!(
+                    said.contains(READ_BACK) || said.contains(WRITTEN_BACK),
+                    "fault {fault} is not found by reading: {said}"
+                );
+                println!("fault {fault:2}: random job {job}: {said}");
+            }
             None => panic!("fault {fault} is not found by reading"),
         }
     }
 }
 
-/// The first random job on which two movers differ, in a short run.
-fn first_difference(a: &impl Mover, b: &impl Mover) -> Option<u64> {
+/// The first random job on which two movers differ, in a short run, and how.
+fn first_difference(a: &impl Mover, b: &impl Mover) -> Option<(u64, String)> {
     let mut compare = Compare::new(a, b);
-    (0..100_000)
-        .find(|&job| random_job(&mut compare, &mut Random::new(DEFAULT_SEED, job), job).is_err())
+    (0..100_000).find_map(|job| {
+        let random = &mut Random::new(DEFAULT_SEED, job);
+        let what = random_job(&mut compare, random, job).err()?;
+        Some((job, what))
+    })
 }
 
 fn environment(name: &str) -> Option<u64> {
@@ -346,6 +357,11 @@ struct Compare<'a, A, B> {
 
 type Compared<T> = Result<T, String>;
 
+/// What is said to differ where a file is not read as the job that was written, and
+/// where a job is not written as the file that was read.
+const READ_BACK: &str = "the job that was written";
+const WRITTEN_BACK: &str = "the file that was read";
+
 /// A difference, with what was lent. Large jobs are cut: the seed and the
 /// job's number bring them back.
 #[cold]
@@ -573,7 +589,9 @@ impl<'a, A: Mover, B: Mover> Compare<'a, A, B> {
             let size = answer.size;
             self.write_file(job, &old[..random.below(size)])?;
             self.write_file(job, &old[..size - 1])?;
-            self.write_file(job, &old[..size])?;
+            if self.write_file(job, &old[..size])? != answer {
+                return Err(format!("{size} bytes are too few for a file of as many"));
+            }
             self.read_what_is_written(job)?;
         }
         Ok(answer)
@@ -597,8 +615,7 @@ impl<'a, A: Mover, B: Mover> Compare<'a, A, B> {
         let answer = self.read_file(&file, &caps, &places)?;
         let read = self.job_read(&file, &answer);
         if read != *job {
-            let what = "the job that was written";
-            return Err(difference(&Row::ReadFile, &file, what, job, &read));
+            return Err(difference(&Row::ReadFile, &file, READ_BACK, job, &read));
         }
         Ok(())
     }
@@ -610,8 +627,8 @@ impl<'a, A: Mover, B: Mover> Compare<'a, A, B> {
         let size = self.write_file(&job, &vec![7; file.len()])?.size;
         let written = &self.lent_a.out[..size];
         if written != file {
-            let what = "the file that was read";
-            return Err(difference(&Row::WriteFile, &job, what, &file, &written));
+            let (row, what) = (&Row::WriteFile, WRITTEN_BACK);
+            return Err(difference(row, &job, what, &file, &written));
         }
         Ok(())
     }

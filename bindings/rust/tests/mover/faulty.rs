@@ -80,14 +80,14 @@ fn wrong_file(
     let (put, more): (Put, usize) = match fault {
         19 => (put_no_top_bit, 1),
         20 => (put_late, 1),
-        // Every number in two groups.
+        // Every number but N in two groups: no file is longer than that.
         21 => (put_two_groups, 1),
         // An entry is the destination, not one more.
         22 => (put_number, 0),
         _ => return None,
     };
     let mut file = Vec::new();
-    put(&mut file, caps.len());
+    put_number(&mut file, caps.len());
     put(&mut file, b);
     caps.iter().for_each(|&m| put(&mut file, m.into()));
     for &entry in places {
@@ -259,12 +259,21 @@ impl<M: Mover> Mover for Faulty<M> {
         cards: &[u8],
         out: &mut [u8],
     ) -> SizeAnswer {
-        let mut answer = self.inner.write_file(caps, b, places, cards, out);
-        if answer.number == 0 {
-            let wrong = wrong_file(self.fault, caps, b, places, cards);
-            if let Some(file) = wrong.filter(|file| file.len() <= out.len()) {
+        let old = out.to_vec();
+        let answer = self.inner.write_file(caps, b, places, cards, out);
+        // A wrong file, but as the rules ask for all else: 19 where it is too long, and
+        // what stood behind it.
+        if matches!(answer.number, 0 | 19) {
+            if let Some(file) = wrong_file(self.fault, caps, b, places, cards) {
+                out.copy_from_slice(&old);
+                if out.len() < file.len() {
+                    return refused(19);
+                }
                 out[..file.len()].copy_from_slice(&file);
-                answer.size = file.len();
+                return SizeAnswer {
+                    size: file.len(),
+                    ..SizeAnswer::default()
+                };
             }
         }
         // A buffer exactly long enough is too short.
