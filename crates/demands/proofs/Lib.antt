@@ -22,4 +22,4 @@ pub mod Runs
 pub mod Demand2
 pub mod Homes
 pub mod RoundTrip
-pub mod Taken
+pub mod EveryCall

@@ -71,7 +71,7 @@ pub record Demand1 : Type 0 where
   pub shelve-refuses : (file : List ℕ) (n : ℕ) → (listing file ≡ refusedLine n) ↔ Holds n ((18, FileTooLarge file) ∷ fileRows file)
   pub run-no-refusal : (racks : List Rack) (b : ℕ) (h : Held) (n : ℕ) → runText racks b h ≢ refusedLine n
   pub shelve-runs : (file : List ℕ) → None ((18, FileTooLarge file) ∷ fileRows file) → listing file ≡ runText (fileRacks file) (fileBytes file) (fileHeld file)
-  -- a file that is read without refusal gives a job that 1 to 6 do not refuse (`Taken` says of such a job that every call takes it): what the lists hold
+  -- a file that is read without refusal gives a job that 1 to 6 do not refuse (`EveryCall` says of such a job that every call takes it): what the lists hold
   -- at their fronts, B and the card bytes
   pub read-accepted : (file caps places : List ℕ) → read file caps places .answer .number ≡ 0
       → let r = read file caps places in Accepted (take (r .racks) (r .caps)) (r .bytes) (held (take (r .slots) (r .places)) (r .cards))

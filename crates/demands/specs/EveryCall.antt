@@ -1,5 +1,5 @@
 -- What an accepted job may still be refused for: of each call's rows only those behind 1 to 6, which are the call's own.
--- Assumes nothing: these are statements; `taken` in proofs/Taken proves them.
+-- Assumes nothing: these are statements; `every-call` in proofs/EveryCall proves them.
 use mathlib.Core.Path.{_≡_}
 use mathlib.Core.List.{List, [], _∷_}
 use Prim.Native.Nat.{ℕ}
@@ -25,7 +25,7 @@ use Rattle.demands.specs.Accepted.{OfAccepted}
 use Rattle.demands.specs.Conditions.{NoSlot, CardAway, TooShort, endRows}
 
 -- every call takes racks, B, a table and its cards
-pub record Taken (racks : List Rack) (b : ℕ) (h : Held) : Type 0 where
+pub record EveryCall (racks : List Rack) (b : ℕ) (h : Held) : Type 0 where
   pub check-table : checked racks (h .places) .number ≡ 0
   pub slot-question : (g : ℕ) → Given (asked racks (h .places) g .answer .number) ((7, NoSlot racks g) ∷ [])
   pub phase-plan : (lent : List ℕ) → Given (planned racks (h .places) lent .answer .number) ((13, TooShort lent (flat (plan racks (h .places)))) ∷ [])
@@ -39,11 +39,11 @@ pub record Taken (racks : List Rack) (b : ℕ) (h : Held) : Type 0 where
       → Given (filed racks b (h .places) (h .cards) lent .answer .number) ((19, TooShort lent (fileFor racks b (h .places) (h .cards))) ∷ [])
 
 -- which jobs every call takes
-pub record AllTaken : Type 0 where
+pub record EveryCallTakes : Type 0 where
   -- those of which 1 to 6 find nothing to refuse
-  pub accepted : OfAccepted Taken
+  pub accepted : OfAccepted EveryCall
   -- so those of a file that is read without refusal: what the lists hold at their fronts, B and the card bytes
   pub from-file : (file caps places : List ℕ) → read file caps places .answer .number ≡ 0
-      → let r = read file caps places in Taken (ofCaps (take (r .racks) (r .caps))) (r .bytes) (held (take (r .slots) (r .places)) (r .cards))
+      → let r = read file caps places in EveryCall (ofCaps (take (r .racks) (r .caps))) (r .bytes) (held (take (r .slots) (r .places)) (r .cards))
   pub from-reader : (reader : Reader) (caps places : List ℕ) (job : JobFile) (caps′ places′ : List ℕ) → JobRead reader caps places job caps′ places′
-      → job .answer .number ≡ 0 → Taken (ofCaps (take (job .racks) caps′)) (job .bytes) (held (take (job .slots) places′) (now (job .cards)))
+      → job .answer .number ≡ 0 → EveryCall (ofCaps (take (job .racks) caps′)) (job .bytes) (held (take (job .slots) places′) (now (job .cards)))

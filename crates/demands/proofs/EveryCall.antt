@@ -15,7 +15,7 @@ use Rattle.jobfile.specs.declared.JobFile.{JobFile}
 use Rattle.demands.specs.Accepted.{Accepted}
 use Rattle.demands.specs.Rows.{None}
 use Rattle.demands.specs.Conditions.{tableRows, cardRows}
-use Rattle.demands.specs.Taken.{Taken, AllTaken}
+use Rattle.demands.specs.EveryCall.{EveryCall, EveryCallTakes}
 use Rattle.demands.proofs.Acceptance.{accepted-table}
 use Rattle.demands.proofs.Rows.{given-behind}
 use Rattle.demands.proofs.CallRows.{given-table-only, given-cards-only}
@@ -28,7 +28,7 @@ module _ (racks : List Rack) (b : ℕ) (h : Held) (z : first (cardChecks racks b
   no-card-row : None (cardRows racks b (h .places) (h .cards))
   no-card-row = given-cards-only racks (h .places) b (h .cards) .done .0 z
 
-  all-take : Taken racks b h
+  all-take : EveryCall racks b h
   all-take =
       record {
         check-table = demand1 .check-table racks (h .places) .done .1 no-table-row;
@@ -43,16 +43,16 @@ module _ (racks : List Rack) (b : ℕ) (h : Held) (z : first (cardChecks racks b
       }
 
 -- a job that a reader reads is that of the file ahead of it
-job-taken : (reader : Reader) (caps places : List ℕ) (job : JobFile) (caps′ places′ : List ℕ) → JobRead reader caps places job caps′ places′
+job-accepted : (reader : Reader) (caps places : List ℕ) (job : JobFile) (caps′ places′ : List ℕ) → JobRead reader caps places job caps′ places′
     → job .answer .number ≡ 0 → Accepted (take (job .racks) caps′) (job .bytes) (held (take (job .slots) places′) (now (job .cards)))
-job-taken reader caps places job caps′ places′ r z =
+job-accepted reader caps places job caps′ places′ r z =
     rw (r .racks-are, r .bytes-are, r .slots-are, r .cards-are, r .caps-are, r .places-are)
     (demand1 .read-accepted (ahead reader) caps places (sym (ap (λ (a : Answer). a .number) (r .answer-is)) ∙ z))
 
-pub taken : AllTaken
-taken =
+pub every-call : EveryCallTakes
+every-call =
     record {
       accepted = λ caps b h z. all-take (ofCaps caps) b h z;
       from-file = λ file caps places z. all-take _ _ _ (demand1 .read-accepted file caps places z);
-      from-reader = λ reader caps places job caps′ places′ r z. all-take _ _ _ (job-taken reader caps places job caps′ places′ r z);
+      from-reader = λ reader caps places job caps′ places′ r z. all-take _ _ _ (job-accepted reader caps places job caps′ places′ r z);
     }
