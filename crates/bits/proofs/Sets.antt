@@ -13,7 +13,7 @@ use lib.Seq.{getD-set-same, getD-set-other}
 use borrow.Author.Tests.{eq-eqb, ne-eqb, eqb-false}
 use Rattle.counting.proofs.Tests.{by-test}
 use Rattle.counting.proofs.Lists.{zeros}
-use Rattle.bits.specs.parts.Bits.{bitOn, turnedOn, turnedOff, isOn, marked, cleared, Topped}
+use Rattle.bits.specs.parts.Bits.{bitOn, turnedOn, turnedOff, isOn, included, cleared, Topped}
 use Rattle.bits.proofs.Words.{bit-none, turned-on-here, turned-on-other, turned-off-here, turned-off-none, turned-off-other, turned-on-lt, turned-off-lt, not-none}
 
 -- a number's word and bit: below 64 both, and no other number has the same two
@@ -40,26 +40,26 @@ topped-none = record {
 }
 
 -- a set has as many words as before
-pub length-marked : (words : List ℕ) (g : ℕ) → length (marked words g) ≡ length words
-unfolding marked
-length-marked words g = length-set (set words (g / 64) (turnedOn (getD words (g / 64) 0) (g % 64))) 64 _ ∙ length-set words (g / 64) _
+pub length-included : (words : List ℕ) (g : ℕ) → length (included words g) ≡ length words
+unfolding included
+length-included words g = length-set (set words (g / 64) (turnedOn (getD words (g / 64) 0) (g % 64))) 64 _ ∙ length-set words (g / 64) _
 
 -- the words of the set with g: g's own, the last, and any other
-marked-own : (words : List ℕ) (g : ℕ) → length words ≡ 66 → g < 4096 → getD (marked words g) (g / 64) 0 ≡ turnedOn (getD words (g / 64) 0) (g % 64)
-unfolding marked
-marked-own words g e h =
+included-own : (words : List ℕ) (g : ℕ) → length words ≡ 66 → g < 4096 → getD (included words g) (g / 64) 0 ≡ turnedOn (getD words (g / 64) 0) (g % 64)
+unfolding included
+included-own words g e h =
     getD-set-other (set words (g / 64) (turnedOn (getD words (g / 64) 0) (g % 64))) 64 (g / 64) _ 0 (λ q. omega arith)
     ∙ getD-set-same words (g / 64) _ 0 (omega arith)
 
-marked-last : (words : List ℕ) (g : ℕ) → length words ≡ 66 → g < 4096 → getD (marked words g) 64 0 ≡ turnedOn (getD words 64 0) (g / 64)
-unfolding marked
-marked-last words g e h =
+included-last : (words : List ℕ) (g : ℕ) → length words ≡ 66 → g < 4096 → getD (included words g) 64 0 ≡ turnedOn (getD words 64 0) (g / 64)
+unfolding included
+included-last words g e h =
     getD-set-same (set words (g / 64) (turnedOn (getD words (g / 64) 0) (g % 64))) 64 _ 0 (omega (arith, length-set words (g / 64) (turnedOn (getD words (g / 64) 0) (g % 64))))
     ∙ ap (λ (x : ℕ). turnedOn x (g / 64)) (getD-set-other words (g / 64) 64 _ 0 (λ q. omega arith))
 
-marked-else : (words : List ℕ) (g v : ℕ) → (v ≡ 64 → ⊥) → (v ≡ g / 64 → ⊥) → getD (marked words g) v 0 ≡ getD words v 0
-unfolding marked
-marked-else words g v p q =
+included-else : (words : List ℕ) (g v : ℕ) → (v ≡ 64 → ⊥) → (v ≡ g / 64 → ⊥) → getD (included words g) v 0 ≡ getD words v 0
+unfolding included
+included-else words g v p q =
     getD-set-other (set words (g / 64) (turnedOn (getD words (g / 64) 0) (g % 64))) 64 v _ 0 p
     ∙ getD-set-other words (g / 64) v _ 0 q
 
@@ -124,16 +124,16 @@ other-kept words words′ g k own rest l f = elim (ℕ-discrete (k / 64) (g / 64
 ]
 
 -- a number marked is in the set
-pub marked-here : (words : List ℕ) (g : ℕ) → length words ≡ 66 → g < 4096 → isOn (marked words g) g ≡ true
+pub included-here : (words : List ℕ) (g : ℕ) → length words ≡ 66 → g < 4096 → isOn (included words g) g ≡ true
 unfolding isOn
-marked-here words g e h = ap (λ (x : ℕ). bitOn x (g % 64)) (marked-own words g e h) ∙ turned-on-here (getD words (g / 64) 0) (g % 64)
+included-here words g e h = ap (λ (x : ℕ). bitOn x (g % 64)) (included-own words g e h) ∙ turned-on-here (getD words (g / 64) 0) (g % 64)
 
 -- and every other as it was
-pub marked-other : (words : List ℕ) (g k : ℕ) → length words ≡ 66 → g < 4096 → k < 4096 → (k ≡ g → ⊥) → isOn (marked words g) k ≡ isOn words k
-marked-other words g k e h l f =
-    other-kept words (marked words g) g k
-    (λ r. ap (λ (x : ℕ). bitOn x (k % 64)) (marked-own words g e h) ∙ turned-on-other (getD words (g / 64) 0) (g % 64) (k % 64) r)
-    (marked-else words g) l f
+pub included-other : (words : List ℕ) (g k : ℕ) → length words ≡ 66 → g < 4096 → k < 4096 → (k ≡ g → ⊥) → isOn (included words g) k ≡ isOn words k
+included-other words g k e h l f =
+    other-kept words (included words g) g k
+    (λ r. ap (λ (x : ℕ). bitOn x (k % 64)) (included-own words g e h) ∙ turned-on-other (getD words (g / 64) 0) (g % 64) (k % 64) r)
+    (included-else words g) l f
 
 -- a number cleared is not in the set
 pub cleared-here : (words : List ℕ) (g : ℕ) → length words ≡ 66 → g < 4096 → isOn (cleared words g) g ≡ false
@@ -149,21 +149,21 @@ cleared-other words g k e h l f =
     (cleared-else words g) l f
 
 -- the last word is right after a number is marked
-pub topped-marked : {words : List ℕ} → Topped words → (g : ℕ) → g < 4096 → Topped (marked words g)
-topped-marked {words} t g h = record {
-  long = length-marked words g ∙ t .long;
+pub topped-included : {words : List ℕ} → Topped words → (g : ℕ) → g < 4096 → Topped (included words g)
+topped-included {words} t g h = record {
+  long = length-included words g ∙ t .long;
   small = λ w. elim (ℕ-discrete w 64) [
-    | yes q ↦ rw (q, marked-last words g (t .long) h) (turned-on-lt 64 (getD words 64 0) (g / 64) (t .small 64) (word-lt g h))
+    | yes q ↦ rw (q, included-last words g (t .long) h) (turned-on-lt 64 (getD words 64 0) (g / 64) (t .small 64) (word-lt g h))
     | no p ↦ elim (ℕ-discrete w (g / 64)) [
-      | yes q ↦ rw (q, marked-own words g (t .long) h) (turned-on-lt 64 (getD words (g / 64) 0) (g % 64) (t .small (g / 64)) (bit-lt g))
-      | no q ↦ rw (marked-else words g w p q) (t .small w)
+      | yes q ↦ rw (q, included-own words g (t .long) h) (turned-on-lt 64 (getD words (g / 64) 0) (g % 64) (t .small (g / 64)) (bit-lt g))
+      | no q ↦ rw (included-else words g w p q) (t .small w)
     ]
   ];
-  tops = λ w l. rw (marked-last words g (t .long) h) (elim (ℕ-discrete w (g / 64)) [
-    | yes q ↦ rw (q, marked-own words g (t .long) h)
+  tops = λ w l. rw (included-last words g (t .long) h) (elim (ℕ-discrete w (g / 64)) [
+    | yes q ↦ rw (q, included-own words g (t .long) h)
         (turned-on-here (getD words 64 0) (g / 64)
         ∙ ap not (sym (ne-eqb (turnedOn (getD words (g / 64) 0) (g % 64)) 0 (not-none (g % 64) (turned-on-here (getD words (g / 64) 0) (g % 64))))))
-    | no q ↦ rw (marked-else words g w (λ r. omega arith) q) (turned-on-other (getD words 64 0) (g / 64) w q ∙ t .tops w l)
+    | no q ↦ rw (included-else words g w (λ r. omega arith) q) (turned-on-other (getD words 64 0) (g / 64) w q ∙ t .tops w l)
   ]);
 }
 
@@ -201,8 +201,8 @@ topped-cleared {words} t g h = record {
 module _ (words : List ℕ) (g word : ℕ) where
   -- as code marks a number: its word, and then the last one
   pub mark-code : (top : ℕ) → word ≡ turnedOn (getD words (g / 64) 0) (g % 64) → top ≡ turnedOn (getD (set words (g / 64) word) 64 0) (g / 64)
-      → set (set words (g / 64) word) 64 top ≡ marked words g
-  unfolding marked
+      → set (set words (g / 64) word) 64 top ≡ included words g
+  unfolding included
   mark-code top p q = rw (q, p)
 
   module _ (p : word ≡ turnedOff (getD words (g / 64) 0) (g % 64)) where
@@ -233,8 +233,8 @@ module _ (words : List ℕ) (x : ℕ) where
   }
 
 -- nor does a number marked or cleared change the 66th word
-pub marked-beside : (words : List ℕ) (g : ℕ) → g < 4096 → getD (marked words g) 65 0 ≡ getD words 65 0
-marked-beside words g h = marked-else words g 65 (λ q. omega arith) (λ q. omega arith)
+pub included-beside : (words : List ℕ) (g : ℕ) → g < 4096 → getD (included words g) 65 0 ≡ getD words 65 0
+included-beside words g h = included-else words g 65 (λ q. omega arith) (λ q. omega arith)
 
 pub cleared-beside : (words : List ℕ) (g : ℕ) → g < 4096 → getD (cleared words g) 65 0 ≡ getD words 65 0
 cleared-beside words g h = cleared-else words g 65 (λ q. omega arith) (λ q. omega arith)

@@ -2,7 +2,7 @@
 ghost use mathlib.Core.Path.{_≡_};
 ghost use Prim.Native.Nat.{_≤_, _<_};
 ghost use lib.ListN.{length};
-ghost use Rattle.bits.specs.parts.Bits.{NUMBERS, WORDS, TOP, bitOn, turnedOn, turnedOff, marked, filled, cleared, Topped, NextOn, Walking, Onward, WalkedOn};
+ghost use Rattle.bits.specs.parts.Bits.{NUMBERS, WORDS, TOP, bitOn, turnedOn, turnedOff, included, filled, cleared, Topped, NextOn, Walking, Onward, WalkedOn};
 
 // The words of a set: one for each 64 numbers below 4,096, one with a bit for each of those that is not empty, and one more, which is its user's.
 pub const WORDS: usize = 66;
@@ -50,7 +50,7 @@ pub fn turn_off(word: u64, b: usize) -> u64
 // Number g into the set.
 pub fn mark(words: &mut [u64; WORDS], g: usize)
     requires { ⌜ (length (now words) ≡ WORDS) × (g < NUMBERS) ⌝ }
-    ensures { λ _. ⌜ now (words .exit) ≡ marked (now (words .entry)) g ⌝ }
+    ensures { λ _. ⌜ now (words .exit) ≡ included (now (words .entry)) g ⌝ }
 {
     let w = g / 64;
     words[w] = turn_on(words[w], g % 64);

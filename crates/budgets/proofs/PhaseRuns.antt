@@ -14,8 +14,8 @@ use Rattle.counting.proofs.Lists.{take-min}
 use Rattle.counting.proofs.Stores.{length-flat}
 use Rattle.racks.specs.Job.{startIn}
 use Rattle.answers.specs.declared.Tally.{Tally}
-use Rattle.bits.specs.parts.Bits.{marked, cleared}
-use Rattle.bits.proofs.Sets.{length-marked, length-cleared}
+use Rattle.bits.specs.parts.Bits.{included, cleared}
+use Rattle.bits.proofs.Sets.{length-included, length-cleared}
 use Rattle.queues.specs.parts.Line.{roomOf}
 use Rattle.queues.specs.parts.Queues.{rowsOf}
 use Rattle.pairing.specs.parts.Phase.{queuedPlan, PhasePlanned}
@@ -30,10 +30,10 @@ use Rattle.budgets.proofs.Shows.{note-long, note-else, note-here}
 -- a move keeps the length of the set's list
 length-note : (m : Pair) (bits : List ℕ) → length (note m bits) ≡ length bits
 unfolding note
-length-note m bits = length-cleared (marked bits (m .0)) (m .1) ∙ length-marked bits (m .0)
+length-note m bits = length-cleared (included bits (m .0)) (m .1) ∙ length-included bits (m .0)
 
 -- a move noted as the code does it
-pub move-noted : (racking : List ℕ) (m : Pair) (line bits words bits′ : List ℕ) → words ≡ marked bits (m .0) → bits′ ≡ cleared words (m .1)
+pub move-noted : (racking : List ℕ) (m : Pair) (line bits words bits′ : List ℕ) → words ≡ included bits (m .0) → bits′ ≡ cleared words (m .1)
     → MoveNoted racking m line bits (set line (4288 + getD racking (m .0) 0) (roomOf line (getD racking (m .0) 0) + 1)) bits′
 unfolding note noteLine oneMore
 move-noted racking m line bits words bits′ e q = record { line-is = refl; bits-are = q ∙ rw e }

@@ -17,8 +17,8 @@ use Rattle.racks.proofs.Geometry.{rack-lt}
 use Rattle.tables.specs.parts.Tables.{Filled}
 use Rattle.plans.specs.Plan.{room}
 use Rattle.plans.specs.Allowed.{Allowed}
-use Rattle.bits.specs.parts.Bits.{isOn, marked, Topped}
-use Rattle.bits.proofs.Sets.{length-marked, topped-marked, topped-cleared, marked-here, marked-other, cleared-here, cleared-other, marked-beside, cleared-beside}
+use Rattle.bits.specs.parts.Bits.{isOn, included, Topped}
+use Rattle.bits.proofs.Sets.{length-included, topped-included, topped-cleared, included-here, included-other, cleared-here, cleared-other, included-beside, cleared-beside}
 use Rattle.queues.specs.parts.Line.{queueOf, headOf, tailOf, roomOf}
 use Rattle.queues.specs.parts.Queued.{oneMore}
 use Rattle.queues.specs.parts.Openings.{Shown}
@@ -68,12 +68,12 @@ module _ {racks : List Rack} (small : slots racks ≤ 4096) (fewRacks : length r
   unfolding note matching
   midway-moved {places} {m} {ms} {line} {bits} l a s =
       record {
-        topped = topped-cleared (topped-marked (s .topped) (m .0) from-in) (m .1) to-in;
+        topped = topped-cleared (topped-included (s .topped) (m .0) from-in) (m .1) to-in;
         shown = λ k h. elim (ℕ-discrete k (m .1)) [
-          | yes e ↦ rw e (cleared-here (marked bits (m .0)) (m .1) long to-in ∙ sym (taken-to l (allowed-free a)))
-          | no d ↦ cleared-other (marked bits (m .0)) (m .1) k long to-in (omega arith) d ∙ with-source k h d
+          | yes e ↦ rw e (cleared-here (included bits (m .0)) (m .1) long to-in ∙ sym (taken-to l (allowed-free a)))
+          | no d ↦ cleared-other (included bits (m .0)) (m .1) k long to-in (omega arith) d ∙ with-source k h d
         ];
-        waiting-same = cleared-beside (marked bits (m .0)) (m .1) to-in ∙ marked-beside bits (m .0) from-in ∙ s .waiting-same;
+        waiting-same = cleared-beside (included bits (m .0)) (m .1) to-in ∙ included-beside bits (m .0) from-in ∙ s .waiting-same;
         rooms-are = λ p h. elim (ℕ-discrete p (rackOf racks (m .0))) [
           | yes e ↦
               let here : roomOf (noteLine racking m line) p ≡ roomOf line p + 1 = rw (e, ← rack) (note-here racking m line few (s .long)) in
@@ -101,14 +101,14 @@ module _ {racks : List Rack} (small : slots racks ≤ 4096) (fewRacks : length r
       few : getD racking (m .0) 0 < 64
       few = omega (arith, rack, rack-lt racks (m .0) (a .from-lt))
 
-      long : length (marked bits (m .0)) ≡ 66
-      long = length-marked bits (m .0) ∙ s .topped .long
+      long : length (included bits (m .0)) ≡ 66
+      long = length-included bits (m .0) ∙ s .topped .long
 
-      with-source : (k : ℕ) → k < slots racks → (k ≡ m .1 → ⊥) → isOn (marked bits (m .0)) k ≡ free (movedPlaces m places) k
+      with-source : (k : ℕ) → k < slots racks → (k ≡ m .1 → ⊥) → isOn (included bits (m .0)) k ≡ free (movedPlaces m places) k
       with-source k h d = elim (ℕ-discrete k (m .0)) [
         | yes e ↦ rw e
-            (marked-here bits (m .0) (s .topped .long) from-in ∙ sym (free-from l (allowed-free a)))
-        | no e ↦ marked-other bits (m .0) k (s .topped .long) from-in (omega arith) e ∙ s .shown k h ∙ sym (same-free l (allowed-free a) k e d)
+            (included-here bits (m .0) (s .topped .long) from-in ∙ sym (free-from l (allowed-free a)))
+        | no e ↦ included-other bits (m .0) k (s .topped .long) from-in (omega arith) e ∙ s .shown k h ∙ sym (same-free l (allowed-free a) k e d)
       ]
 
   -- moves noted

@@ -22,7 +22,7 @@ use Rattle.bits.proofs.Sets.{beside-kept, topped-beside}
 use Rattle.queues.specs.parts.Line.{headOf, tailOf}
 use Rattle.queues.specs.parts.Queues.{rowsOf, Visitable}
 use Rattle.queues.specs.parts.Queued.{begins, Placed, Awaiting}
-use Rattle.queues.specs.parts.Openings.{Opened, Shown}
+use Rattle.queues.specs.parts.Openings.{FreeSet, Shown}
 use Rattle.queues.specs.parts.Ready.{Ready}
 use Rattle.queues.proofs.Line.{queue-long}
 use Rattle.queues.proofs.OpenSlots.{opens-roomy}
@@ -57,7 +57,7 @@ module _ (racks : List Rack) (places racking : List ℕ) (t : Tabled racks place
   -- the rows after all slots
   pub queues-ready : (ends : List ℕ) → ((p : ℕ) → p < length racks → startIn ends p ≡ base racks p) → ((p : ℕ) → p < 64 → startIn ends p ≤ 4096)
       → (n : ℕ) (start line bits : List ℕ) (word : ℕ) → n ≡ length racks → word < 2 ^ 64 → Placed racks places n start → Queueing racks places start (slots racks) line
-      → Opened places bits → Awaiting n line word → Ready racks places (rowsOf ends line (set bits 65 word))
+      → FreeSet places bits → Awaiting n line word → Ready racks places (rowsOf ends line (set bits 65 word))
   unfolding begins
   queues-ready ends starts small n start line bits word en fw f q c a =
       record {

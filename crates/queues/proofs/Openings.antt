@@ -16,7 +16,7 @@ use Rattle.bits.proofs.Words.{bit-none, doubled-low, doubled-up}
 use Rattle.bits.proofs.Sets.{topped-none}
 use Rattle.bits.proofs.Fills.{filled-here, filled-other, filled-else, topped-filled}
 use Rattle.queues.specs.parts.Line.{Blank}
-use Rattle.queues.specs.parts.Openings.{Word, Opened}
+use Rattle.queues.specs.parts.Openings.{Word, FreeSet}
 use Rattle.queues.proofs.Line.{blank-is}
 
 module _ (places : List ℕ) (high : ℕ) where
@@ -55,24 +55,24 @@ module _ (places : List ℕ) (high : ℕ) where
         rest (suc b) h = let j : suc b ≡ 1 + b = omega arith in rw j (doubled-up word one b few) ∙ s .rest b (omega arith)
 
 -- the first w words are found, and the others are empty
-pub record OpenedTo (places : List ℕ) (w : ℕ) (bits : List ℕ) : Type 0 where
+pub record FreeSetTo (places : List ℕ) (w : ℕ) (bits : List ℕ) : Type 0 where
   pub topped : Topped bits
   pub shown : (k : ℕ) → k < w * 64 → k < length places → isOn bits k ≡ free places k
   pub rest : (v : ℕ) → w ≤ v → v < 64 → getD bits v 0 ≡ 0
 
 module _ (places : List ℕ) where
   -- none is found
-  pub opened-none : {bits : List ℕ} → Blank 66 bits → OpenedTo places 0 bits
-  opened-none e = record { topped = rw (blank-is e) topped-none; shown = λ k l m. absurd (omega arith); rest = λ v l m. e .zero v }
+  pub free-set-none : {bits : List ℕ} → Blank 66 bits → FreeSetTo places 0 bits
+  free-set-none e = record { topped = rw (blank-is e) topped-none; shown = λ k l m. absurd (omega arith); rest = λ v l m. e .zero v }
 
   -- all are found
-  pub opened-all : {w : ℕ} {bits : List ℕ} → OpenedTo places w bits → length places ≤ w * 64 → Opened places bits
-  opened-all s l = record { topped = s .topped; shown = λ k m. s .shown k (omega arith) m }
+  pub free-set-all : {w : ℕ} {bits : List ℕ} → FreeSetTo places w bits → length places ≤ w * 64 → FreeSet places bits
+  free-set-all s l = record { topped = s .topped; shown = λ k m. s .shown k (omega arith) m }
 
   -- one word more
-  pub opened-more : (small : length places ≤ 4096) {w word high : ℕ} {bits : List ℕ} → OpenedTo places w bits → w * 64 < length places → high ≡ min (w * 64 + 64) (length places)
-      → Word places (w * 64) high word → OpenedTo places (w + 1) (filled bits w word)
-  opened-more small {w} {word} {high} {bits} s l e o =
+  pub free-set-more : (small : length places ≤ 4096) {w word high : ℕ} {bits : List ℕ} → FreeSetTo places w bits → w * 64 < length places → high ≡ min (w * 64 + 64) (length places)
+      → Word places (w * 64) high word → FreeSetTo places (w + 1) (filled bits w word)
+  free-set-more small {w} {word} {high} {bits} s l e o =
       record {
         topped = topped-filled (s .topped) w word h (s .rest w (omega arith) h) (lt-of-lt-of-le (o .small) (pow-mono {i = high - w * 64} {j = 64} (omega arith)));
         shown = λ k m i. elim (ℕ-discrete (k / 64) w) [

@@ -42,8 +42,8 @@ unfoldable pub isOn : List ℕ → ℕ → Bool
 isOn words g = bitOn (getD words (g / 64) 0) (g % 64)
 
 -- the set with g: its bit in its word, and the word's bit in the last one
-unfoldable pub marked : List ℕ → ℕ → List ℕ
-marked words g =
+unfoldable pub included : List ℕ → ℕ → List ℕ
+included words g =
     let w = g / 64 in
     let words′ = set words w (turnedOn (getD words w 0) (g % 64)) in
     set words′ 64 (turnedOn (getD words′ 64 0) w)

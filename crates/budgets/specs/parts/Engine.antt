@@ -18,7 +18,7 @@ use Rattle.tables.specs.parts.Tables.{Open}
 use Rattle.moves.specs.Moves.{Held, carried}
 use Rattle.moves.specs.Phases.{budget}
 use Rattle.carrying.specs.parts.Carrying.{AllSlots, Carried}
-use Rattle.bits.specs.parts.Bits.{marked, cleared, WORDS}
+use Rattle.bits.specs.parts.Bits.{included, cleared, WORDS}
 use Rattle.queues.specs.parts.Line.{ROOMS, roomOf, LINE}
 use Rattle.queues.specs.parts.Queued.{oneMore}
 use Rattle.queues.specs.parts.Ready.{Started}
@@ -27,7 +27,7 @@ use Rattle.pairing.specs.parts.Phase.{queuedPlan, Plannable, PhasePlanned}
 
 -- the set of free slots after a move: with its source, and without its target
 unfoldable pub note : Pair → List ℕ → List ℕ
-note m bits = cleared (marked bits (m .0)) (m .1)
+note m bits = cleared (included bits (m .0)) (m .1)
 
 -- the set after moves
 unfoldable pub noted : List Pair → List ℕ → List ℕ

@@ -18,6 +18,6 @@ abbrev pub Shown : ℕ → List ℕ → List ℕ → Type 0
 Shown g places bits = (k : ℕ) → k < g → isOn bits k ≡ free places k
 
 -- the set has the free slots of the table
-pub record Opened (places bits : List ℕ) : Type 0 where
+pub record FreeSet (places bits : List ℕ) : Type 0 where
   pub topped : Topped bits
   pub shown : Shown (length places) places bits

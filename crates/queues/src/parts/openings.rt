@@ -4,7 +4,7 @@ ghost use lib.ListN.{length};
 ghost use Rattle.racks.specs.Limits.{SLOTS};
 ghost use Rattle.bits.specs.parts.Bits.{WORDS};
 ghost use Rattle.queues.specs.parts.Line.{Blank};
-ghost use Rattle.queues.specs.parts.Openings.{Word, Opened};
+ghost use Rattle.queues.specs.parts.Openings.{Word, FreeSet};
 use racks::Job;
 
 // The word of the slots from `low` up to `high`, at most 64 of them: a bit is on where its slot is free. From the last slot down, each makes
@@ -25,7 +25,7 @@ fn free_word(places: &[u16], low: usize, high: usize) -> u64
 // The set of the free slots of a table.
 pub fn find_free(places: &[u16], bits: &mut [u64; bits::parts::WORDS])
     requires { ⌜ (length (now places) ≤ SLOTS) × Blank WORDS (now bits) ⌝ }
-    ensures { λ _. ⌜ Opened (now (places .entry)) (now (bits .exit)) ⌝ }
+    ensures { λ _. ⌜ FreeSet (now (places .entry)) (now (bits .exit)) ⌝ }
 {
     let slots = places.len();
     let mut w: usize = 0;

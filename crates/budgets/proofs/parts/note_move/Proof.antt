@@ -1,7 +1,7 @@
 use borrow.Author.Needs.{needs}
 use mathlib.Core.Path.{ap, _∙_}
 use lib.ListN.{length}
-use Rattle.bits.proofs.Sets.{length-marked}
+use Rattle.bits.proofs.Sets.{length-included}
 use Rattle.budgets.proofs.PhaseRuns.{move-noted}
 use Rattle.budgets.proofs.parts.note_move.Statement.{statement}
 use Rattle.budgets.proofs.parts.note_move.Tie as tie
@@ -10,7 +10,7 @@ mark-requires : tie.Need-mark-requires
 mark-requires c κs = search needs
 
 clear-requires : tie.Need-clear-requires
-clear-requires c κs = let s = c .before .before .before in (ap length (c .before .mark .ensures) ∙ length-marked _ _ ∙ s .pre .2, s .pre .0 .to-lt)
+clear-requires c κs = let s = c .before .before .before in (ap length (c .before .mark .ensures) ∙ length-included _ _ ∙ s .pre .2, s .pre .0 .to-lt)
 
 element-copy-out-k : tie.Need-element-copy-out-k
 element-copy-out-k c = search needs
