@@ -115,13 +115,13 @@ accepted-read file caps places z =
       take-front places (filePlaces file) (slots (fileRacks file)) long (not-below (λ l. room (inr l))),
     ) a
 
--- the number of a job read from a reader's place on
+-- the number of a job read from a reader's position on
 given-job : (reader : Reader) (caps places : List ℕ) (job : JobFile) (caps′ places′ : List ℕ) → JobRead reader caps places job caps′ places′
     → Given (job .answer .number) (fileRows (ahead reader) then (17, NoRoom (ahead reader) caps places) ∷ [])
 given-job reader caps places job caps′ places′ r =
     subst (λ (a : Answer). Given (a .number) (fileRows (ahead reader) then (17, NoRoom (ahead reader) caps places) ∷ [])) (sym (r .answer-is)) (given-read (ahead reader) caps places)
 
--- nothing lies ahead of a place behind the end, and no numeral is in an empty file
+-- nothing lies ahead of a position behind the end, and no numeral is in an empty file
 behind : (reader : Reader) (caps places : List ℕ) → length (now (reader .file)) ≤ reader .at → read (ahead reader) caps places .answer .number ≡ 15
 unfolding first ahead read readChecks fileChecks readN numerals numeral groups lastGroup
 behind reader caps places l = rw (drop-of-length-le (now (reader .file)) {i = reader .at} l)

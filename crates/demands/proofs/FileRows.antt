@@ -43,13 +43,13 @@ module _ (ask : List ℕ → ℕ → List Row) (bad : List ℕ → ℕ → ℕ) 
   numbered-numerals zero at before = tt
   numbered-numerals (suc n) at before =
       let x = numeral file at in
-      let rest = numbered-numerals n (x .place) (before ++ x .value ∷ []) in
+      let rest = numbered-numerals n (x .next) (before ++ x .value ∷ []) in
       ((λ e. omega arith), ((λ e. omega arith), numbered-both _ (ask before (x .value)) (says before (x .value) .numbered) rest))
 
   -- one numeral more
   step : (n at : ℕ) (before : List ℕ) → numerals bad (suc n) file at before .number
       ≡ first (refusal (numeral file at .number) ∷ refusal (bad before (numeral file at .value))
-      ∷ refusal (numerals bad n file (numeral file at .place) (before ++ numeral file at .value ∷ []) .number) ∷ [])
+      ∷ refusal (numerals bad n file (numeral file at .next) (before ++ numeral file at .value ∷ []) .number) ∷ [])
   unfolding numerals
   step n at before =
       let x = numeral file at in
@@ -60,10 +60,10 @@ module _ (ask : List ℕ → ℕ → List Row) (bad : List ℕ → ℕ → ℕ) 
   given-numerals zero at before = unfold numerals in subst (λ (m : ℕ). Given m []) first-none given-none
   given-numerals (suc n) at before =
       let x = numeral file at in
-      let rows = numeralRows ask n file (x .place) (before ++ x .value ∷ []) in
-      let k = numbered-numerals n (x .place) (before ++ x .value ∷ []) in
+      let rows = numeralRows ask n file (x .next) (before ++ x .value ∷ []) in
+      let k = numbered-numerals n (x .next) (before ++ x .value ∷ []) in
       let s = says before (x .value) in
-      let rest = given-numerals n (x .place) (before ++ x .value ∷ []) in
+      let rest = given-numerals n (x .next) (before ++ x .value ∷ []) in
       subst (λ (m : ℕ). Given m (formRows file at ++ (ask before (x .value) ++ rows))) (sym (step n at before))
       (given-after (x .number) (formRows file at) _ (ask before (x .value) ++ rows) (given-form file at) (numbered-both rows (ask before (x .value)) (s .numbered) k)
       (λ _. given-after (bad before (x .value)) (ask before (x .value)) _ rows s k
@@ -91,13 +91,13 @@ module _ (file : List ℕ) where
   rowsN = numeralRows askN 1 file 0 []
 
   abbrev rowsB : List Row
-  rowsB = numeralRows askB 1 file (readN file .place) []
+  rowsB = numeralRows askB 1 file (readN file .next) []
 
   abbrev rowsM : List Row
-  rowsM = numeralRows askM (getD (readN file .values) 0 0) file (readB file .place) []
+  rowsM = numeralRows askM (getD (readN file .values) 0 0) file (readB file .next) []
 
   abbrev rowsE : List Row
-  rowsE = numeralRows (askEntry (fileRacks file)) (slots (fileRacks file)) file (readM file .place) []
+  rowsE = numeralRows (askEntry (fileRacks file)) (slots (fileRacks file)) file (readM file .next) []
 
   -- after the last entry
   abbrev rowsC : List Row
@@ -122,9 +122,9 @@ module _ (file : List ℕ) where
       let c : Given (first _) (rowsC ++ more) =
       given-row _ (λ e. omega arith) (says-6 (filePlaces file)) (given-row _ (λ e. omega arith) (says-lt _ _) (given-row _ (λ e. omega arith) (says-lt _ _) g)) in
       let n = given-numerals askN wrongN file given-n 1 0 [] in
-      let b = given-numerals askB wrongB file given-b 1 (readN file .place) [] in
-      let m = given-numerals askM wrongM file given-m (getD (readN file .values) 0 0) (readB file .place) [] in
-      let e = given-numerals (askEntry (fileRacks file)) (wrongEntry (fileRacks file)) file (given-entry (fileRacks file)) (slots (fileRacks file)) (readM file .place) [] in
+      let b = given-numerals askB wrongB file given-b 1 (readN file .next) [] in
+      let m = given-numerals askM wrongM file given-m (getD (readN file .values) 0 0) (readB file .next) [] in
+      let e = given-numerals (askEntry (fileRacks file)) (wrongEntry (fileRacks file)) file (given-entry (fileRacks file)) (slots (fileRacks file)) (readM file .next) [] in
       let past-m = numbered-both (rowsC ++ more) rowsE (e .numbered) (c .numbered) in
       let past-b = numbered-both (rowsE ++ (rowsC ++ more)) rowsM (m .numbered) past-m in
       let past-n = numbered-both (rowsM ++ (rowsE ++ (rowsC ++ more))) rowsB (b .numbered) past-b in

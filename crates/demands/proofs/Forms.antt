@@ -46,7 +46,7 @@ add-on m n = omega arith
 module _ (file : List ℕ) (at : ℕ) where
   -- what is read where the numeral ends well with group i
   abbrev pub readTo : ℕ → Got
-  readTo i = record { number = 0; value = valueOf file at i; place = at + i + 1 }
+  readTo i = record { number = 0; value = valueOf file at i; next = at + i + 1 }
 
   -- how a numeral ends, and what is then read
   pub data Form (got : Got) : Type 0 where
@@ -73,7 +73,7 @@ module _ (file : List ℕ) (at : ℕ) where
   unfolding valueOf
   form-last i value weight k f l h v w =
       let x : ℕ = getD file (at + i) 0 in
-      let fine : (i ≡ 0) ⊎ (x ≢ 0) → record { number = 0; value = value + x * weight; place = at + i + 1 } ≡ lastGroup value weight x (at + i + 1)
+      let fine : (i ≡ 0) ⊎ (x ≢ 0) → record { number = 0; value = value + x * weight; next = at + i + 1 } ≡ lastGroup value weight x (at + i + 1)
       → Form (lastGroup value weight x (at + i + 1)) =
       λ o e. good i (k, f, l, h, o) (sym e ∙ rw (v, w)) in
       elim (ℕ-discrete x 0) [

@@ -53,7 +53,7 @@ c-filed =
         racks = y .0 .racks;
         bytes = y .0 .bytes;
         slots = y .0 .slots;
-        place = y .0 .place;
+        start = y .0 .start;
       },
       y .1,
       y .2,

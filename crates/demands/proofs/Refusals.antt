@@ -19,7 +19,7 @@ use Rattle.numerals.specs.Numeral.{Got, numeral}
 use Rattle.numerals.specs.Numeral.{gotOf}
 use Rattle.numerals.specs.declared.Numeral.{Numeral}
 use Rattle.numerals.specs.declared.Numeral.the-variants.{Value, Refused}
-use Rattle.jobfile.specs.Reading.{placeAfter, Stepped, Next, ahead, JobRead}
+use Rattle.jobfile.specs.Reading.{atAfter, Stepped, Next, ahead, JobRead}
 use Rattle.jobfile.specs.declared.Reader.{Reader}
 use Rattle.jobfile.specs.declared.Step.{Step}
 use Rattle.jobfile.specs.declared.JobFile.{JobFile}
@@ -30,7 +30,7 @@ use Rattle.demands.specs.Demand1.{refusedWith, Refusals}
 
 -- a file that is refused
 refused-read : (file caps places : List ℕ) (n : ℕ) → n ≢ 0 → read file caps places .answer .number ≡ n
-    → read file caps places ≡ record { answer = refusedWith n; racks = 0; bytes = 0; slots = 0; caps = caps; places = places; place = 0; cards = [] }
+    → read file caps places ≡ record { answer = refusedWith n; racks = 0; bytes = 0; slots = 0; caps = caps; places = places; start = 0; cards = [] }
 unfolding read
 refused-read file caps places n f e = rw (e, ne-eqb n 0 f)
 
@@ -43,15 +43,15 @@ refused-job reader caps places job caps′ places′ n r f z =
     let e1 = r .racks-are ∙ ap (λ (o : Read). o .racks) e in
     let e2 = r .bytes-are ∙ ap (λ (o : Read). o .bytes) e in
     let e3 = r .slots-are ∙ ap (λ (o : Read). o .slots) e in
-    let e4 = r .place-is ∙ ap (λ (o : Read). o .place) e in
+    let e4 = r .start-is ∙ ap (λ (o : Read). o .start) e in
     let e5 = r .cards-are ∙ ap (λ (o : Read). o .cards) e in
     let e6 = r .caps-are ∙ ap (λ (o : Read). o .caps) e in
     let e7 = r .places-are ∙ ap (λ (o : Read). o .places) e in
     λ i. (e0 i, e1 i, e2 i, e3 i, e4 i, e5 i, e6 i, e7 i)
 
--- a numeral that is refused says so, and the place stays
-refused-numeral : (x : Numeral) (got : Got) (at n : ℕ) → gotOf x ≡ got → n ≢ 0 → got .number ≡ n → (x ≡ Refused n) × (placeAfter x at ≡ at)
-unfolding gotOf placeAfter
+-- a numeral that is refused says so, and the position stays
+refused-numeral : (x : Numeral) (got : Got) (at n : ℕ) → gotOf x ≡ got → n ≢ 0 → got .number ≡ n → (x ≡ Refused n) × (atAfter x at ≡ at)
+unfolding gotOf atAfter
 refused-numeral (Value v p) got at n e f z = absurd (f (sym z ∙ sym (ap (λ (g : Got). g .number) e)))
 refused-numeral (Refused m) got at n e f z = (ap Refused (ap (λ (g : Got). g .number) e ∙ z), refl)
 

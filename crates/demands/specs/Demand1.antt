@@ -57,16 +57,16 @@ pub record Demand1 : Type 0 where
       → Given (read file caps places .answer .number) (fileRows file then (17, NoRoom file caps places) ∷ [])
   pub write-file : (racks : List Rack) (b : ℕ) (places cards lent : List ℕ)
       → Given (filed racks b places cards lent .answer .number) (cardRows racks b places cards then (19, TooShort lent (fileFor racks b places cards)) ∷ [])
-  -- a job is read from the reader's place on: the whole file from the start, and 15 where the place lies behind the end
+  -- a job is read from the reader's position on: the whole file from the start, and 15 where the position lies behind the end
   pub read-job : (reader : Reader) (caps places : List ℕ) (job : JobFile) (caps′ places′ : List ℕ) → JobRead reader caps places job caps′ places′
       → Given (job .answer .number) (fileRows (ahead reader) then (17, NoRoom (ahead reader) caps places) ∷ [])
   pub from-start : (reader : Reader) → reader .at ≡ 0 → ahead reader ≡ now (reader .file)
   pub behind-end : (reader : Reader) (caps places : List ℕ) → length (now (reader .file)) ≤ reader .at → read (ahead reader) caps places .answer .number ≡ 15
   pub list-job : (file lent : List ℕ) → Given (printed file lent .answer .number) ((13, TooShort lent (listing file)) ∷ [])
-  -- one numeral of a file: 14, 15, or its value by its groups and the place behind the last
+  -- one numeral of a file: 14, 15, or its value by its groups and the position behind the last
   pub form : (file : List ℕ) (at : ℕ) → Given (numeral file at .number) (formRows file at)
   pub ends : (file : List ℕ) (at : ℕ) → numeral file at .number ≡ 0 → (i : ℕ) × EndsWith file at i
-  pub value : (file : List ℕ) (at i : ℕ) → EndsWith file at i → numeral file at ≡ record { number = 0; value = valueOf file at i; place = at + i + 1 }
+  pub value : (file : List ℕ) (at i : ℕ) → EndsWith file at i → numeral file at ≡ record { number = 0; value = valueOf file at i; next = at + i + 1 }
   -- the program looks at 18 before all else; its text says `refused n` exactly when condition n holds, or is that of a run, which is no such line
   pub shelve-refuses : (file : List ℕ) (n : ℕ) → (listing file ≡ refusedLine n) ↔ Holds n ((18, FileTooLarge file) ∷ fileRows file)
   pub run-no-refusal : (racks : List Rack) (b : ℕ) (h : Held) (n : ℕ) → runText racks b h ≢ refusedLine n
@@ -107,12 +107,12 @@ pub record Refusals : Type 0 where
       → ran racks b h ≡ record { answer = refusedWith n; held = h }
   pub read-file : (file caps places : List ℕ) (n : ℕ) → n ≢ 0 → read file caps places .answer .number ≡ n
       → read file caps places
-      ≡ record { answer = refusedWith n; racks = 0; bytes = 0; slots = 0; caps = caps; places = places; place = 0; cards = [] }
+      ≡ record { answer = refusedWith n; racks = 0; bytes = 0; slots = 0; caps = caps; places = places; start = 0; cards = [] }
   pub write-file : (racks : List Rack) (b : ℕ) (places cards lent : List ℕ) (n : ℕ) → n ≢ 0 → filed racks b places cards lent .answer .number ≡ n
       → filed racks b places cards lent ≡ record { answer = refusedWith n; size = 0; lent = lent }
   pub read-job : (reader : Reader) (caps places : List ℕ) (job : JobFile) (caps′ places′ : List ℕ) (n : ℕ) → JobRead reader caps places job caps′ places′ → n ≢ 0
       → job .answer .number ≡ n → jobSeen (job, caps′, places′) ≡ (refusedWith n, 0, 0, 0, 0, [], caps, places)
-  -- a numeral that is refused leaves the place where it was
+  -- a numeral that is refused leaves the position where it was
   pub step-at : (file : List ℕ) (at n : ℕ) (step : Step) → Stepped file at step → n ≢ 0 → numeral file at .number ≡ n → (step .numeral ≡ Refused n) × (step .at ≡ at)
   pub next : (before after : Reader) (x : Numeral) (n : ℕ) → Next before x after → n ≢ 0 → numeral (now (before .file)) (before .at) .number ≡ n
       → (x ≡ Refused n) × (after .file ≡ before .file) × (after .at ≡ before .at)

@@ -11,7 +11,7 @@ use Rattle.parsing.specs.File.{readN, readB, readM, fileRacks, fileBytes, fileP
 use Rattle.demands.specs.Rows.{Row, _then_}
 use Rattle.demands.specs.Conditions.{UserSlot, WrongN, WrongB, TooMany, TwoNameOne}
 
--- group i of the numeral at a place follows: each group before it is in the file and has its top bit set
+-- group i of the numeral at a position follows: each group before it is in the file and has its top bit set
 abbrev pub Follows : List ℕ → ℕ → ℕ → Type 0
 Follows file at i = (j : ℕ) → j < i → (at + j < length file) × (128 ≤ getD file (at + j) 0)
 
@@ -31,7 +31,7 @@ CutShort file at = (i : ℕ) × (i < 3) × Follows file at i × (length file ≤
 abbrev pub EndsWith : List ℕ → ℕ → ℕ → Type 0
 EndsWith file at i = (i < 3) × Follows file at i × (at + i < length file) × (getD file (at + i) 0 < 128) × ((i ≡ 0) ⊎ (getD file (at + i) 0 ≢ 0))
 
--- the seven bits of group j, in their place: lowest first
+-- the seven bits of group j, by their weight: lowest first
 unfoldable pub sevenBits : List ℕ → ℕ → ℕ → ℕ
 sevenBits file at j = (getD file (at + j) 0 - 128) * 128 ^ j
 
@@ -43,7 +43,7 @@ valueOf file at i = sum i (sevenBits file at) + getD file (at + i) 0 * 128 ^ i
 abbrev pub WrongFileEntry : List Rack → ℕ → Type 0
 WrongFileEntry racks x = (x ≢ 0) × (¬ UserSlot racks (x - 1))
 
--- the rows of the numeral at a place: its form
+-- the rows of the numeral at a position: its form
 abbrev pub formRows : List ℕ → ℕ → List Row
 formRows file at = (14, Padded file at ⊎ TooLong file at) ∷ (15, CutShort file at) ∷ []
 
@@ -60,20 +60,20 @@ askM before m = (3, TooMany (ofCaps (before ++ m ∷ []))) ∷ []
 abbrev pub askEntry : List Rack → List ℕ → ℕ → List Row
 askEntry racks before x = (5, WrongFileEntry racks x) ∷ []
 
--- the rows of n numerals from a place on, each checked as read: its form, then its value
+-- the rows of n numerals from a position on, each checked as read: its form, then its value
 unfoldable pub numeralRows : (List ℕ → ℕ → List Row) → ℕ → List ℕ → ℕ → List ℕ → List Row
 numeralRows ask zero file at before = []
 numeralRows ask (suc n) file at before =
     let x = numeral file at in
-    formRows file at then ask before (x .value) then numeralRows ask n file (x .place) (before ++ x .value ∷ [])
+    formRows file at then ask before (x .value) then numeralRows ask n file (x .next) (before ++ x .value ∷ [])
 
 -- the rows of a file: N, B, the m_p, the entries; after the last entry 6, then 15 or 16 for the card bytes
 abbrev pub fileRows : List ℕ → List Row
 fileRows file =
     numeralRows askN 1 file 0 []
-    then numeralRows askB 1 file (readN file .place) []
-    then numeralRows askM (getD (readN file .values) 0 0) file (readB file .place) []
-    then numeralRows (askEntry (fileRacks file)) (slots (fileRacks file)) file (readM file .place) []
+    then numeralRows askB 1 file (readN file .next) []
+    then numeralRows askM (getD (readN file .values) 0 0) file (readB file .next) []
+    then numeralRows (askEntry (fileRacks file)) (slots (fileRacks file)) file (readM file .next) []
     then (6, TwoNameOne (filePlaces file))
     ∷ (15, length (fileCards file) < slots (fileRacks file) * fileBytes file)
     ∷ (16, slots (fileRacks file) * fileBytes file < length (fileCards file))

@@ -49,7 +49,7 @@ pub record OneOutcome : Type 0 where
   pub write-file : (caps : List ℕ) (b : ℕ) (places cards lent : List ℕ)
       → One (λ ((r, lent′) : SizeAnswer × List ℕ). WriteFile caps b places cards lent r lent′)
   pub list-job : (file lent : List ℕ) → One (λ ((r, lent′) : SizeAnswer × List ℕ). ListJob file lent r lent′)
-  -- the reader that remembers its place; a part of the file is known by its bytes
+  -- the reader that remembers its position; a part of the file is known by its bytes
   pub rest-of : (file : List ℕ) (at : ℕ) → OneSeen now (λ (r : RefT (List ℕ)). RestOf file at (now r))
   pub card-bytes : (file : List ℕ) (found : FileAnswer) → OneSeen now (λ (r : RefT (List ℕ)). CardBytes file found (now r))
   pub step-at : (file : List ℕ) (at : ℕ) → One (Stepped file at)

@@ -72,10 +72,10 @@ checks racks places n = checked racks places ≡ answer n noCounts
 
 -- a numeral read, and a file refused
 abbrev reads : List ℕ → ℕ → ℕ → Type 0
-reads file value place = numeral file 0 ≡ record { number = 0; value = value; place = place }
+reads file value next = numeral file 0 ≡ record { number = 0; value = value; next = next }
 
 abbrev refusesNumeral : List ℕ → ℕ → Type 0
-refusesNumeral file n = numeral file 0 ≡ record { number = n; value = 0; place = 0 }
+refusesNumeral file n = numeral file 0 ≡ record { number = n; value = 0; next = 0 }
 
 -- a job has these phases and, when they are carried, this copy list
 abbrev runs : List Rack → List ℕ → List (List Pair) → List Pair → Type 0

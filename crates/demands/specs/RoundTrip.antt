@@ -28,7 +28,7 @@ pub record RoundTrip : Type 0 where
         slots = length places;
         caps = sets caps₀ 0 caps;
         places = sets places₀ 0 places;
-        place = r .size - length cards;
+        start = r .size - length cards;
         cards = cards;
       }
   -- what the reader found in a file of bytes, written into a buffer with room: the bytes of that file, and its length

@@ -20,30 +20,30 @@ use Rattle.racks.specs.Table.{dest, free, names}
 use Rattle.racks.specs.Numbers.{badEntry, badEntries, repeats, badTwice}
 use Rattle.racks.proofs.Geometry.{user-lt}
 use Rattle.entries.specs.parts.Marks.{FilledFrom, entriesNumber}
-use Rattle.entries.specs.parts.Once.{placeOf, OnceMarked, MarkTaken}
+use Rattle.entries.specs.parts.Once.{markAt, OnceMarked, MarkTaken}
 use Rattle.entries.proofs.Fills.{user-here}
 use Rattle.entries.proofs.Marks.{repeats-free}
 
--- the place of an entry, by the tests that the code makes
+-- where the mark of an entry stands, by the tests that the code makes
 module _ (S g x : ℕ) where
-  pub place-free : x ≡ FREE → 4097 + g ≡ placeOf S g x
-  unfolding placeOf
-  place-free e = rw (eq-eqb x FREE e)
+  pub mark-at-free : x ≡ FREE → 4097 + g ≡ markAt S g x
+  unfolding markAt
+  mark-at-free e = rw (eq-eqb x FREE e)
 
-  pub place-none : (x ≡ FREE → ⊥) → S < x → S ≡ placeOf S g x
-  unfolding placeOf
-  place-none f l = rw (ne-eqb x FREE f, lt-ltb S x l)
+  pub mark-at-none : (x ≡ FREE → ⊥) → S < x → S ≡ markAt S g x
+  unfolding markAt
+  mark-at-none f l = rw (ne-eqb x FREE f, lt-ltb S x l)
 
-  pub place-slot : (x ≡ FREE → ⊥) → x ≤ S → x ≡ placeOf S g x
-  unfolding placeOf
-  place-slot f l = rw (ne-eqb x FREE f, le-ltb S x l)
+  pub mark-at-slot : (x ≡ FREE → ⊥) → x ≤ S → x ≡ markAt S g x
+  unfolding markAt
+  mark-at-slot f l = rw (ne-eqb x FREE f, le-ltb S x l)
 
-  pub place-in : S ≤ 4096 → g < 4096 → placeOf S g x < 8193
-  place-in s l = elim (ℕ-discrete x FREE) [
-    | yes e ↦ omega (arith, place-free e)
+  pub mark-at-in : S ≤ 4096 → g < 4096 → markAt S g x < 8193
+  mark-at-in s l = elim (ℕ-discrete x FREE) [
+    | yes e ↦ omega (arith, mark-at-free e)
     | no e ↦ elim (decLt S x) [
-      | yes m ↦ omega (arith, place-none e m)
-      | no m ↦ omega (arith, place-slot e (omega arith))
+      | yes m ↦ omega (arith, mark-at-none e m)
+      | no m ↦ omega (arith, mark-at-slot e (omega arith))
     ]
   ]
 
@@ -102,14 +102,14 @@ module _ (racks : List Rack) (small : slots racks ≤ 4096) (places marks : List
   unfolding badEntry
   user-clean u = ap not (or-r (free places g) u)
 
-  module _ (at : ℕ) (ea : at ≡ placeOf (slots racks) g (dest places g)) where
+  module _ (at : ℕ) (ea : at ≡ markAt (slots racks) g (dest places g)) where
     -- an entry whose mark stands open names a slot
     names-slot : (dest places g ≡ FREE → ⊥) → getD marks at 0 ≡ 1 → (at ≡ dest places g) × (dest places g ≤ slots racks)
     names-slot f m = elim (decLt (slots racks) (dest places g)) [
       | yes l ↦
-          let e : at ≡ slots racks = ea ∙ sym (place-none (slots racks) g (dest places g) f l) in
+          let e : at ≡ slots racks = ea ∙ sym (mark-at-none (slots racks) g (dest places g) f l) in
           absurd (omega (arith, user-lt racks at (o .users at (omega arith) m)))
-      | no l ↦ (ea ∙ sym (place-slot (slots racks) g (dest places g) f (omega arith)), omega arith)
+      | no l ↦ (ea ∙ sym (mark-at-slot (slots racks) g (dest places g) f (omega arith)), omega arith)
     ]
 
     at-clean : getD marks at 0 ≡ 1 → badEntry racks places g ≡ false
@@ -143,7 +143,7 @@ module _ (racks : List Rack) (small : slots racks ≤ 4096) (places marks : List
       unfolding names
       unnamed-more v l m =
           let s = still v l m in
-          rw (some-more g (names places v)) (or-none (o .unnamed v l (s .0)) (ne-eqb (dest places g) v (λ e. s .1 (ea ∙ sym (place-slot (slots racks) g (dest places g) (λ q. omega arith) (omega arith)) ∙ e))))
+          rw (some-more g (names places v)) (or-none (o .unnamed v l (s .0)) (ne-eqb (dest places g) v (λ e. s .1 (ea ∙ sym (mark-at-slot (slots racks) g (dest places g) (λ q. omega arith) (omega arith)) ∙ e))))
 
       pub once-more : Once racks places after (all and fits) (g + 1)
       once-more =

@@ -7,7 +7,7 @@ ghost use Rattle.counting.specs.Tests.{_and_};
 ghost use Rattle.racks.specs.Limits.{SLOTS, MARKS};
 ghost use Rattle.racks.specs.Job.{racksOf, Sound};
 ghost use Rattle.entries.specs.parts.Marks.{FilledFrom, UsersMarked, Entered, entriesNumber, worse};
-ghost use Rattle.entries.specs.parts.Once.{placeOf, MarkTaken, OnceMarked};
+ghost use Rattle.entries.specs.parts.Once.{markAt, MarkTaken, OnceMarked};
 use racks::Job;
 
 // One value from `low` up to `high` in a list of bytes.
@@ -118,9 +118,9 @@ fn shut_spares(job: Job, marks: &mut [u8; Job::MARKS])
 
 // Where the mark of an entry stands: a free slot has one of its own, so that no mark waits for the one before it. No branch: in a table
 // where free and taken slots alternate at random none could be foretold.
-fn place_of(slots: usize, g: usize, x: u16) -> usize
+fn mark_at(slots: usize, g: usize, x: u16) -> usize
     requires { ⌜ (slots ≤ SLOTS) × (g < SLOTS) ⌝ }
-    ensures { λ r. ⌜ r ≡ placeOf slots g x ⌝ }
+    ensures { λ r. ⌜ r ≡ markAt slots g x ⌝ }
 {
     if x == Job::FREE {
         return Job::MAX_SLOTS + 1 + g;
@@ -132,7 +132,7 @@ fn place_of(slots: usize, g: usize, x: u16) -> usize
     at
 }
 
-// Shuts the mark at a place; whether it was open.
+// Shuts the mark at a position; whether it was open.
 fn take_mark(marks: &mut [u8; Job::MARKS], at: usize) -> bool
     requires { ⌜ (at < MARKS) × (length (now marks) ≡ MARKS) ⌝ }
     ensures { λ r. ⌜ MarkTaken (now (marks .entry)) at r (now (marks .exit)) ⌝ }
@@ -161,7 +161,7 @@ fn marked_once(job: Job, places: &[u16], marks: &mut [u8; Job::MARKS]) -> bool
     let mut all = true;
     let mut g: usize = 0;
     while g < job.slots {
-        let at = place_of(job.slots, g, places[g]);
+        let at = mark_at(job.slots, g, places[g]);
         let fits = take_mark(marks, at);
         all = both(all, fits);
         g = g + 1;

@@ -33,7 +33,7 @@ file-same a b e =
       racks = x .racks;
       bytes = x .bytes;
       slots = x .slots;
-      place = x .place;
+      start = x .start;
     }) e
 
 -- two answers of five numbers that are one answer of the listing are equal

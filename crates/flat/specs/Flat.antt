@@ -60,7 +60,7 @@ fileOf r =
       racks = r .racks;
       bytes = r .bytes;
       slots = r .slots;
-      place = r .place;
+      start = r .start;
     }
 
 -- the answer of a call that writes bytes, which five numbers are

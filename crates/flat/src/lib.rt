@@ -22,7 +22,7 @@ pub struct SlotAnswer {
     pub rack: usize,
 }
 
-// What the file reader gives: N, B, S and the place where the card bytes begin; all 0 on a refusal.
+// What the file reader gives: N, B, S and where the card bytes begin; all 0 on a refusal.
 #[repr(C)]
 pub struct FileAnswer {
     pub number: usize,
@@ -32,7 +32,7 @@ pub struct FileAnswer {
     pub racks: usize,
     pub bytes: usize,
     pub slots: usize,
-    pub place: usize,
+    pub start: usize,
 }
 
 // What a call gives that writes bytes into a lent buffer: the number, and how many bytes it wrote; 0 on a refusal.

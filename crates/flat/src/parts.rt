@@ -87,7 +87,7 @@ pub fn file_numbers(found: parsing::FileAnswer) -> FileAnswer
         racks: found.racks,
         bytes: found.bytes,
         slots: found.slots,
-        place: found.place,
+        start: found.start,
     }
 }
 

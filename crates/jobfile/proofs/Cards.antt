@@ -10,17 +10,17 @@ use borrow.Author.Tests.{eq-eqb, ne-eqb}
 use Rattle.jobfile.specs.Answers.{cardsOf}
 use Rattle.parsing.specs.declared.FileAnswer.{FileAnswer}
 
--- the part of a file from a place on
+-- the part of a file from a position on
 module _ (file : List ℕ) where
   part-none : take (length file - length file) (drop (length file) file) ≡ []
   part-none = rw (sub-self (length file))
 
   module _ (at : ℕ) where
-    -- empty where the place lies behind the end
+    -- empty where the position lies behind the end
     pub rest-past : length file < at → take (length file - length file) (drop (length file) file) ≡ drop at file
     rest-past l = part-none ∙ sym (drop-of-length-le file {i = at} (omega arith))
 
-    -- else all that lies behind the place
+    -- else all that lies behind the position
     pub rest-behind : take (length file - at) (drop at file) ≡ drop at file
     rest-behind = take-all (length file - at) (drop at file) (le-of-eq (length-drop at file))
 
@@ -29,7 +29,7 @@ module _ (file : List ℕ) where
   unfolding cardsOf
   cards-refused found f = part-none ∙ rw (ne-eqb (found .answer .number) 0 f)
 
-  -- else all that lies behind their place
-  pub cards-done : (found : FileAnswer) → found .answer .number ≡ 0 → drop (found .place) file ≡ cardsOf found file
+  -- else all from their start on
+  pub cards-done : (found : FileAnswer) → found .answer .number ≡ 0 → drop (found .start) file ≡ cardsOf found file
   unfolding cardsOf
   cards-done found z = rw (eq-eqb (found .answer .number) 0 z)

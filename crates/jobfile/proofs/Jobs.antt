@@ -13,7 +13,7 @@ use Rattle.jobfile.specs.declared.JobFile.{JobFile}
 
 -- the answer of an outcome and of the part of the file that the card bytes are
 abbrev pub made : FileAnswer → RefT (List ℕ) → JobFile
-made found cards = record { answer = found .answer; racks = found .racks; bytes = found .bytes; slots = found .slots; place = found .place; cards = cards }
+made found cards = record { answer = found .answer; racks = found .racks; bytes = found .bytes; slots = found .slots; start = found .start; cards = cards }
 
 -- read from the part of the file ahead of the reader
 pub job-read : (reader : Reader) (file caps places : List ℕ) (found : FileAnswer) (cards : RefT (List ℕ)) (caps′ places′ : List ℕ) → file ≡ drop (reader .at) (now (reader .file))
@@ -26,7 +26,7 @@ job-read reader file caps places found cards caps′ places′ is outcome c =
       racks-are = ap (λ (r : Read). r .racks) e;
       bytes-are = ap (λ (r : Read). r .bytes) e;
       slots-are = ap (λ (r : Read). r .slots) e;
-      place-is = ap (λ (r : Read). r .place) e;
+      start-is = ap (λ (r : Read). r .start) e;
       cards-are = c ∙ ap (λ (r : Read). r .cards) e;
       caps-are = ap (λ (r : Read). r .caps) e;
       places-are = ap (λ (r : Read). r .places) e;

@@ -9,11 +9,11 @@ use Rattle.counting.proofs.One.{one-is, one-by}
 use Rattle.numerals.specs.Numeral.{Got, numeral, gotOf}
 use Rattle.numerals.specs.declared.Numeral.{Numeral}
 use Rattle.numerals.specs.declared.Numeral.the-variants.{Value, Refused}
-use Rattle.numerals.proofs.Groups.{place-some}
+use Rattle.numerals.proofs.Groups.{next-some}
 use Rattle.parsing.specs.File.{Read}
 use Rattle.parsing.specs.declared.FileAnswer.{FileAnswer}
 use Rattle.jobfile.specs.Answers.{readOf, ReadFile, RestOf, CardBytes}
-use Rattle.jobfile.specs.Reading.{placeAfter, Stepped, New, Next, JobRead, jobSeen}
+use Rattle.jobfile.specs.Reading.{atAfter, Stepped, New, Next, JobRead, jobSeen}
 use Rattle.jobfile.specs.declared.Reader.{Reader}
 use Rattle.jobfile.specs.declared.JobFile.{JobFile}
 
@@ -23,7 +23,7 @@ pub filed-one : (file : List ℕ) {allowed : Read → Type 0} → One allowed
 unfolding readOf
 filed-one file =
     one-by (λ (x : FileAnswer × List ℕ × List ℕ). readOf (x .0) (x .1) (x .2) file)
-    (λ (o : Read). (record { answer = o .answer; racks = o .racks; bytes = o .bytes; slots = o .slots; place = o .place }, o .caps, o .places)) (λ x. refl)
+    (λ (o : Read). (record { answer = o .answer; racks = o .racks; bytes = o .bytes; slots = o .slots; start = o .start }, o .caps, o .places)) (λ x. refl)
 
 pub read-file-one : (file caps places : List ℕ) → One (λ ((r, caps′, places′) : FileAnswer × List ℕ × List ℕ). ReadFile file caps places r caps′ places′)
 read-file-one file caps places = filed-one file (one-is _)
@@ -34,16 +34,16 @@ rest-of-one file at x y p q = p ∙ sym q
 pub card-bytes-one : (file : List ℕ) (found : FileAnswer) → OneSeen now (λ (r : RefT (List ℕ)). CardBytes file found (now r))
 card-bytes-one file found x y p q = p ∙ sym q
 
--- a numeral read: a value comes with a place behind it, so it is no refusal
+-- a numeral read: a value comes with a position behind it, so it is no refusal
 module _ (file : List ℕ) (at : ℕ) where
   no-mix : (v p n : ℕ) → gotOf (Value v p) ≡ numeral file at → gotOf (Refused n) ≡ numeral file at → ⊥
   unfolding gotOf numeral
   no-mix v p n a b =
-      omega (arith, place-some 3 file at 0 1 (sym (ap (λ (g : Got). g .number) a)), ap (λ (g : Got). g .place) b)
+      omega (arith, next-some 3 file at 0 1 (sym (ap (λ (g : Got). g .number) a)), ap (λ (g : Got). g .next) b)
 
   one-numeral : (m n : Numeral) → gotOf m ≡ numeral file at → gotOf n ≡ numeral file at → m ≡ n
   unfolding gotOf
-  one-numeral (Value v p) (Value w q) a b = ap (λ (g : Got). Value (g .value) (g .place)) (a ∙ sym b)
+  one-numeral (Value v p) (Value w q) a b = ap (λ (g : Got). Value (g .value) (g .next)) (a ∙ sym b)
   one-numeral (Value v p) (Refused n) a b = absurd (no-mix v p n a b)
   one-numeral (Refused m) (Value w q) a b = absurd (no-mix w q m b a)
   one-numeral (Refused m) (Refused n) a b = ap (λ (g : Got). Refused (g .number)) (a ∙ sym b)
@@ -51,13 +51,13 @@ module _ (file : List ℕ) (at : ℕ) where
 pub step-at-one : (file : List ℕ) (at : ℕ) → One (Stepped file at)
 step-at-one file at x y p q =
     let e = one-numeral file at (x .numeral) (y .numeral) (p .got-is) (q .got-is) in
-    let f : x .at ≡ y .at = p .at-is ∙ ap (λ (n : Numeral). placeAfter n at) e ∙ sym (q .at-is) in
+    let f : x .at ≡ y .at = p .at-is ∙ ap (λ (n : Numeral). atAfter n at) e ∙ sym (q .at-is) in
     λ i. record { numeral = e i; at = f i }
 
 pub next-one : (reader : Reader) → One (λ ((n, after) : Numeral × Reader). Next reader n after)
 next-one reader (m, x) (n, y) p q =
     let e = one-numeral (now (reader .file)) (reader .at) m n (p .got-is) (q .got-is) in
-    let f : x .at ≡ y .at = p .at-is ∙ ap (λ (k : Numeral). placeAfter k (reader .at)) e ∙ sym (q .at-is) in
+    let f : x .at ≡ y .at = p .at-is ∙ ap (λ (k : Numeral). atAfter k (reader .at)) e ∙ sym (q .at-is) in
     let g : x .file ≡ y .file = p .file-is ∙ sym (q .file-is) in
     λ i. (e i, record { file = g i; at = f i })
 
@@ -73,7 +73,7 @@ read-job-one reader caps places (x, c, p) (y, d, q) a b =
     let e1 = a .racks-are ∙ sym (b .racks-are) in
     let e2 = a .bytes-are ∙ sym (b .bytes-are) in
     let e3 = a .slots-are ∙ sym (b .slots-are) in
-    let e4 = a .place-is ∙ sym (b .place-is) in
+    let e4 = a .start-is ∙ sym (b .start-is) in
     let e5 = a .cards-are ∙ sym (b .cards-are) in
     let e6 = a .caps-are ∙ sym (b .caps-are) in
     let e7 = a .places-are ∙ sym (b .places-are) in

@@ -10,9 +10,9 @@ use Rattle.answers.specs.Answers.{answer}
 use Rattle.parsing.specs.File.{Read, read}
 use Rattle.parsing.specs.declared.FileAnswer.{FileAnswer}
 
--- the card bytes: what lies behind their place; an empty part on a refusal
+-- the card bytes: what lies from their start on; an empty part on a refusal
 unfoldable pub cardsOf : FileAnswer → List ℕ → List ℕ
-cardsOf found file = pick (done (found .answer .number)) (drop (found .place) file) []
+cardsOf found file = pick (done (found .answer .number)) (drop (found .start) file) []
 
 -- the outcome that an answer and the two lists at exit are
 unfoldable pub readOf : FileAnswer → List ℕ → List ℕ → List ℕ → Read
@@ -24,7 +24,7 @@ readOf found caps places file =
       slots = found .slots;
       caps = caps;
       places = places;
-      place = found .place;
+      start = found .start;
       cards = cardsOf found file;
     }
 

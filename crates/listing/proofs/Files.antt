@@ -67,7 +67,7 @@ module _ (file : List ℕ) where
       let w = within z in
       let good = cards-pass (fileRacks file) (fileBytes file) (filePlaces file) (fileCards file) (file-legal file (w .1)) in
       run-enough (fileRacks file) (fileBytes file) (fileHeld file) (good .0) (spared-caps (readM file .values)) (file-small file (w .1) .1)
-      (good .1) (omega (arith, good .1, length-drop (readEntries file .place) file, w .0))
+      (good .1) (omega (arith, good .1, length-drop (readEntries file .next) file, w .0))
 
   -- **Always enough**: no text is longer than ENOUGH, that of a refusal neither
   pub listing-enough : length (listing file) ≤ ENOUGH
@@ -122,7 +122,7 @@ module _ (file : List ℕ) where
 
       cards-are : cardsOf found file ≡ fileCards file
       unfolding cardsOf fileCards
-      cards-are = rw (z, ap (λ (x : FileAnswer). x .place) done-is)
+      cards-are = rw (z, ap (λ (x : FileAnswer). x .start) done-is)
 
       -- which passes 1 to 6
       pub job-legal : first (cardChecks (ofCaps (take (found .racks) caps)) (found .bytes) (take (found .slots) places) (cardsOf found file)) ≡ 0
@@ -131,7 +131,7 @@ module _ (file : List ℕ) where
       -- with no more card bytes than the file has
       pub job-small : length (cardsOf found file) ≤ FILE
       unfolding fileCards
-      job-small = omega (arith, ap length cards-are, length-drop (readEntries file .place) file)
+      job-small = omega (arith, ap length cards-are, length-drop (readEntries file .next) file)
 
       -- whose run is the text
       pub listing-run : listing file ≡ runText (ofCaps (take (found .racks) caps)) (found .bytes) (held (take (found .slots) places) (cardsOf found file))

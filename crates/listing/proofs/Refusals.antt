@@ -42,7 +42,7 @@ numbers-most bad few zero file at before = omega arith
 numbers-most bad few (suc n) file at before =
     let x = groups 3 file at 0 1 in
     let cs = refusal (x .number) ∷ refusal (bad before (x .value)) ∷ [] in
-    by-test (done (first cs)) (λ e. rw e (numbers-most bad few n file (x .place) (before ++ x .value ∷ [])))
+    by-test (done (first cs)) (λ e. rw e (numbers-most bad few n file (x .next) (before ++ x .value ∷ [])))
     (λ e. rw e (first-most 15 {cs = cs} (more (groups-most 3 file at 0 1) (more (few before (x .value)) none))))
 
 -- **The number of a file is at most 18**
@@ -51,7 +51,7 @@ unfolding programChecks fileChecks readN readB readM readEntries wrongN wrongB w
 number-most file =
     first-most 18 (more (omega arith)
     (more (omega (arith, numbers-most wrongN (λ b x. first-most 15 (more (omega arith) none)) 1 file 0 []))
-    (more (omega (arith, numbers-most wrongB (λ b x. first-most 15 (more (omega arith) none)) 1 file (readN file .place) []))
-    (more (omega (arith, numbers-most wrongM (λ b x. first-most 15 (more (omega arith) none)) (getD (readN file .values) 0 0) file (readB file .place) []))
-    (more (omega (arith, numbers-most (wrongEntry (fileRacks file)) (λ b x. first-most 15 (more (omega arith) none)) (slots (fileRacks file)) file (readM file .place) []))
+    (more (omega (arith, numbers-most wrongB (λ b x. first-most 15 (more (omega arith) none)) 1 file (readN file .next) []))
+    (more (omega (arith, numbers-most wrongM (λ b x. first-most 15 (more (omega arith) none)) (getD (readN file .values) 0 0) file (readB file .next) []))
+    (more (omega (arith, numbers-most (wrongEntry (fileRacks file)) (λ b x. first-most 15 (more (omega arith) none)) (slots (fileRacks file)) file (readM file .next) []))
     (more (omega arith) (more (omega arith) (more (omega arith) none))))))))

@@ -16,7 +16,7 @@ use Rattle.numerals.specs.Numeral.{Got, refused, groups, lastGroup}
 -- the last group, by the tests that the code makes
 module _ (value weight x next : ℕ) where
   -- a last group that is not 0
-  pub last-some : (x ≡ 0 → ⊥) → record { number = 0; value = value + x * weight; place = next } ≡ lastGroup value weight x next
+  pub last-some : (x ≡ 0 → ⊥) → record { number = 0; value = value + x * weight; next = next } ≡ lastGroup value weight x next
   unfolding lastGroup
   last-some f = rw (and-off-l (not (eqb weight 1)) (ne-eqb x 0 f))
 
@@ -26,36 +26,36 @@ module _ (value weight x next : ℕ) where
   last-14 e f = rw (both (eq-eqb x 0 e) (ap not (ne-eqb weight 1 f)))
 
   -- a group of 0 alone
-  pub last-only : x ≡ 0 → weight ≡ 1 → record { number = 0; value = value; place = next } ≡ lastGroup value weight x next
+  pub last-only : x ≡ 0 → weight ≡ 1 → record { number = 0; value = value; next = next } ≡ lastGroup value weight x next
   unfolding lastGroup
   last-only e f = rw (and-off-r (eqb x 0) (ap not (eq-eqb weight 1 f)), e, zero-mul weight, add-zero value)
 
 -- one group more, by the tests that the code makes
-module _ (file : List ℕ) (left place value weight : ℕ) (some : 0 < left) where
+module _ (file : List ℕ) (left at value weight : ℕ) (some : 0 < left) where
   one-less : left ≡ suc (left - 1)
   one-less = omega arith
 
   -- the file ends
-  pub group-15 : length file ≤ place → groups left file place value weight ≡ refused 15
+  pub group-15 : length file ≤ at → groups left file at value weight ≡ refused 15
   unfolding groups
-  group-15 h = rw (one-less, le-leb (length file) place h)
+  group-15 h = rw (one-less, le-leb (length file) at h)
 
   -- no other group follows
-  pub group-last : place < length file → getD file place 0 < 128 → groups left file place value weight ≡ lastGroup value weight (getD file place 0) (place + 1)
+  pub group-last : at < length file → getD file at 0 < 128 → groups left file at value weight ≡ lastGroup value weight (getD file at 0) (at + 1)
   unfolding groups lastGroup
-  group-last h l = rw (one-less, lt-leb (length file) place h, lt-leb 128 (getD file place 0) l, add-one place)
+  group-last h l = rw (one-less, lt-leb (length file) at h, lt-leb 128 (getD file at 0) l, add-one at)
 
   -- another group follows
-  pub group-more : place < length file → 128 ≤ getD file place 0
-      → groups left file place value weight ≡ groups (left - 1) file (place + 1) (value + (getD file place 0 - 128) * weight) (weight * 128)
+  pub group-more : at < length file → 128 ≤ getD file at 0
+      → groups left file at value weight ≡ groups (left - 1) file (at + 1) (value + (getD file at 0 - 128) * weight) (weight * 128)
   unfolding groups
   group-more h l =
-      ap (λ n. groups n file place value weight) one-less ∙ rw (lt-leb (length file) place h, le-leb 128 (getD file place 0) l, add-one place)
+      ap (λ n. groups n file at value weight) one-less ∙ rw (lt-leb (length file) at h, le-leb 128 (getD file at 0) l, add-one at)
 
 -- a group too many
-pub group-14 : (file : List ℕ) (left place value weight : ℕ) → left ≡ 0 → groups left file place value weight ≡ refused 14
+pub group-14 : (file : List ℕ) (left at value weight : ℕ) → left ≡ 0 → groups left file at value weight ≡ refused 14
 unfolding groups
-group-14 file left place value weight e = rw e
+group-14 file left at value weight e = rw e
 
 -- how large a numeral can be with `left` groups to come
 pub record Weighed (left value weight : ℕ) : Type 0 where
@@ -84,13 +84,13 @@ weighed-more left value weight y s l w =
 pub product-small : (y weight : ℕ) → y ≤ 128 → weight ≤ 16384 → y * weight ≤ 2097152
 product-small y weight l h = omega (arith, mul-le-mul-right weight l)
 
--- the place behind a numeral that is read is not 0
-pub place-some : (more : ℕ) (file : List ℕ) (at value weight : ℕ) → groups more file at value weight .number ≡ 0 → 0 < groups more file at value weight .place
+-- the position behind a numeral that is read is not 0
+pub next-some : (more : ℕ) (file : List ℕ) (at value weight : ℕ) → groups more file at value weight .number ≡ 0 → 0 < groups more file at value weight .next
 unfolding groups lastGroup
-place-some zero file at value weight e = absurd (omega arith)
-place-some (suc more) file at value weight e = go (leb (length file) at) (leb 128 (getD file at 0)) (eqb (getD file at 0) 0 and not (eqb weight 1)) _ _ (place-some more file (suc at) _ _) (omega arith) e
+next-some zero file at value weight e = absurd (omega arith)
+next-some (suc more) file at value weight e = go (leb (length file) at) (leb 128 (getD file at 0)) (eqb (getD file at 0) 0 and not (eqb weight 1)) _ _ (next-some more file (suc at) _ _) (omega arith) e
   where
-    go : (a b d : Bool) (g h : Got) → (g .number ≡ 0 → 0 < g .place) → 0 < h .place → pick a (refused 15) (pick b g (pick d (refused 14) h)) .number ≡ 0 → 0 < pick a (refused 15) (pick b g (pick d (refused 14) h)) .place
+    go : (a b d : Bool) (g h : Got) → (g .number ≡ 0 → 0 < g .next) → 0 < h .next → pick a (refused 15) (pick b g (pick d (refused 14) h)) .number ≡ 0 → 0 < pick a (refused 15) (pick b g (pick d (refused 14) h)) .next
     go true b d g h f l e = absurd (omega arith)
     go false true d g h f l e = f e
     go false false true g h f l e = absurd (omega arith)

@@ -15,19 +15,19 @@ use Rattle.numerals.specs.Numeral.{gotOf}
 use Rattle.numerals.specs.parts.Bounds.{checkedNumeral, outside}
 use Rattle.numerals.specs.declared.Numeral.{Numeral}
 use Rattle.numerals.specs.declared.Numeral.the-variants.{Value, Refused}
-use Rattle.numerals.proofs.Groups.{place-some}
+use Rattle.numerals.proofs.Groups.{next-some}
 
--- a numeral read, its value and the place behind it
+-- a numeral read, its value and the position behind it
 abbrev pub got : ℕ → ℕ → Got
-got v p = record { number = 0; value = v; place = p }
+got v p = record { number = 0; value = v; next = p }
 
 -- the numerals stopped by a refusal
 abbrev pub stopped : ℕ → Numerals
-stopped n = record { number = n; values = []; place = 0 }
+stopped n = record { number = n; values = []; next = 0 }
 
 -- the numerals read
 abbrev pub reading : List ℕ → ℕ → Numerals
-reading values place = record { number = 0; values = values; place = place }
+reading values next = record { number = 0; values = values; next = next }
 
 -- what the cases of an answer are
 pub value-got : (r : Numeral) (v p : ℕ) (g : Got) → r ≡ Value v p → gotOf r ≡ g → got v p ≡ g
@@ -67,7 +67,7 @@ module _ (file : List ℕ) (at : ℕ) where
   refused-some : (n : ℕ) → refused n ≡ numeral file at → n ≡ 0 → ⊥
   unfolding numeral
   refused-some n e z =
-      omega (arith, place-some 3 file at 0 1 (sym (ap (λ (g : Got). g .number) e) ∙ z), ap (λ (g : Got). g .place) e)
+      omega (arith, next-some 3 file at 0 1 (sym (ap (λ (g : Got). g .number) e) ∙ z), ap (λ (g : Got). g .next) e)
 
   module _ (bad : ℕ → ℕ) where
     -- what a numeral gives that is refused by its form, that passes, and that is bad

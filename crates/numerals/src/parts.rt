@@ -5,25 +5,25 @@ ghost use Rattle.numerals.specs.Numeral.{numeral, lastGroup, gotOf};
 ghost use Rattle.numerals.specs.parts.Bounds.{ranged};
 use crate::Numeral;
 
-// The numeral at a place of the file: groups of seven bits, lowest first, at most three.
+// The numeral at a position of the file: groups of seven bits, lowest first, at most three.
 pub fn next_numeral(file: &[u8], at: usize) -> Numeral
     ensures { λ r. ⌜ gotOf r ≡ numeral (now (file .entry)) at ⌝ }
 {
     let mut value: usize = 0;
     let mut weight: usize = 1;
-    let mut place = at;
+    let mut next = at;
     let mut left: usize = 3;
     while 0 < left {
-        if file.len() <= place {
+        if file.len() <= next {
             return Numeral::Refused(15);
         }
-        let x = file[place] as usize;
+        let x = file[next] as usize;
         if x < 128 {
-            return last_group(value, weight, x, place + 1);
+            return last_group(value, weight, x, next + 1);
         }
         value = value + (x - 128) * weight;
         weight = weight * 128;
-        place = place + 1;
+        next = next + 1;
         left = left - 1;
     }
     Numeral::Refused(14)
@@ -53,7 +53,7 @@ pub fn refused_with(got: Numeral) -> u8
     }
 }
 
-// The numeral at a place of the file, refused with n where it is below `low` or above `high`.
+// The numeral at a position of the file, refused with n where it is below `low` or above `high`.
 pub fn bounded_numeral(file: &[u8], at: usize, low: usize, high: usize, n: u8) -> Numeral
     requires { ⌜ 0 < n ⌝ }
     ensures { λ r. ⌜ gotOf r ≡ ranged low high n (now (file .entry)) at ⌝ }

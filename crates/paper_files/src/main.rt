@@ -3,7 +3,7 @@ use jobfile::Reader;
 
 mod say;
 
-// The job at the reader's place.
+// The job at the reader's position.
 fn say_job_at<'a>(r: Reader<'a>, caps: &mut [u16], places: &mut [u16]) {
     let job = jobfile::read_job(r, caps, places);
     say::say_job(
@@ -11,7 +11,7 @@ fn say_job_at<'a>(r: Reader<'a>, caps: &mut [u16], places: &mut [u16]) {
         job.racks,
         job.bytes,
         job.slots,
-        job.place,
+        job.start,
         job.cards,
     );
 }

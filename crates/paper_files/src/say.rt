@@ -29,7 +29,7 @@ pub fn say_job(
     racks: usize,
     bytes: usize,
     slots: usize,
-    place: usize,
+    start: usize,
     cards: &[u8],
 ) {
     saying::parts::say_answer(b"job", answer);
@@ -40,6 +40,6 @@ pub fn say_job(
     io::write_all(1, b" S ");
     io::print_decimal(1, slots as u64);
     io::write_all(1, b" at ");
-    io::print_decimal(1, place as u64);
+    io::print_decimal(1, start as u64);
     saying::parts::say_cards(cards);
 }

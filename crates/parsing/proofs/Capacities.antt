@@ -97,12 +97,12 @@ room-not t m l h = elim (decLe 1023 (4032 - t)) [
 ]
 
 -- p of n capacities are read: they are at the front of the list, in order, and what is left is as from the start
-pub record Capping (file : List ℕ) (at n p place sum : ℕ) (caps : List ℕ) : Type 0 where
+pub record Capping (file : List ℕ) (at n p next sum : ℕ) (caps : List ℕ) : Type 0 where
   pub few : p ≤ n
   pub long : length caps ≡ 64
   pub sum-is : sum ≡ total (ofCaps (take p caps))
   pub good : badSize (ofCaps (take p caps)) ≡ false
-  pub left : numerals wrongM (n - p) file place (take p caps) ≡ numerals wrongM n file at []
+  pub left : numerals wrongM (n - p) file next (take p caps) ≡ numerals wrongM n file at []
 
 total-none : 0 ≡ total (ofCaps [])
 total-none = sym (sum-zero _) ∙ total-is (ofCaps []) 0 (sym (length-caps []))
@@ -123,24 +123,24 @@ module _ (file : List ℕ) (at n : ℕ) (caps : List ℕ) where
         left = rw (sub-zero n);
       }
 
-  module _ (p place sum : ℕ) (c : Capping file at n p place sum caps) where
+  module _ (p next sum : ℕ) (c : Capping file at n p next sum caps) where
     module _ (l : p < n) where
       one-left : n - p ≡ suc (n - (p + 1))
       one-left = omega arith
 
-      left-suc : numerals wrongM (suc (n - (p + 1))) file place (take p caps) ≡ numerals wrongM n file at []
-      left-suc = ap (λ (k : ℕ). numerals wrongM k file place (take p caps)) (sym one-left) ∙ c .left
+      left-suc : numerals wrongM (suc (n - (p + 1))) file next (take p caps) ≡ numerals wrongM n file at []
+      left-suc = ap (λ (k : ℕ). numerals wrongM k file next (take p caps)) (sym one-left) ∙ c .left
 
-      module _ (m next : ℕ) (e : got m next ≡ ranged 0 (roomFor sum) 3 file place) where
+      module _ (m behind : ℕ) (e : got m behind ≡ ranged 0 (roomFor sum) 3 file next) where
         -- it is at most 1,023, and the running total at most 4,032
         pub cap-small : (m ≤ 1023) × (sum + m ≤ 4032)
         unfolding ranged
         cap-small =
-            let r = room-is sum m (inside 0 (roomFor sum) 3 m (omega arith) (passed-good file place (outside 0 (roomFor sum) 3) m next e) .1) in
+            let r = room-is sum m (inside 0 (roomFor sum) 3 m (omega arith) (passed-good file next (outside 0 (roomFor sum) 3) m behind e) .1) in
             (r .0, omega (arith, r .1, c .sum-is, size-total (take p caps) (c .good)))
 
         -- one more is read
-        pub capping-more : n ≤ 64 → Capping file at n (p + 1) next (sum + m) (set caps p m)
+        pub capping-more : n ≤ 64 → Capping file at n (p + 1) behind (sum + m) (set caps p m)
         unfolding ranged
         capping-more h =
             let t : take (p + 1) (set caps p m) ≡ take p caps ++ m ∷ [] = ap (λ (k : ℕ). take k (set caps p m)) (add-one p) ∙ take-suc-set caps p m (omega (arith, c .long)) in
@@ -150,7 +150,7 @@ module _ (file : List ℕ) (at n : ℕ) (caps : List ℕ) where
               long = length-set caps p m ∙ c .long;
               sum-is = rw t (omega (arith, c .sum-is, total-after (take p caps) m));
               good = rw t g;
-              left = rw t (sym (numerals-go file place wrongM (n - (p + 1)) (take p caps) (outside 0 (roomFor sum) 3) m next e (wrong-0 (take p caps) m (c .good) g)) ∙ left-suc);
+              left = rw t (sym (numerals-go file next wrongM (n - (p + 1)) (take p caps) (outside 0 (roomFor sum) 3) m behind e (wrong-0 (take p caps) m (c .good) g)) ∙ left-suc);
             }
 
       as-bad : (m : ℕ) → (outside 0 (roomFor sum) 3 m ≡ 0 → ⊥) → wrongM (take p caps) m ≡ outside 0 (roomFor sum) 3 m
@@ -165,24 +165,24 @@ module _ (file : List ℕ) (at n : ℕ) (caps : List ℕ) where
       ]
 
       -- one is refused
-      pub capping-stop : (k : ℕ) → refused k ≡ ranged 0 (roomFor sum) 3 file place → CapsRead file at n (record { number = k; place = 0 }) caps
+      pub capping-stop : (k : ℕ) → refused k ≡ ranged 0 (roomFor sum) 3 file next → CapsRead file at n (record { number = k; next = 0 }) caps
       unfolding ranged takenOf
       capping-stop k e =
-          let f = refused-by file place (outside 0 (roomFor sum) 3) k e .1 in
+          let f = refused-by file next (outside 0 (roomFor sum) 3) k e .1 in
           record {
-            is = rw (ne-eqb k 0 f) (sym (numerals-stop file place wrongM (n - (p + 1)) (take p caps) (outside 0 (roomFor sum) 3) as-bad k e) ∙ left-suc);
+            is = rw (ne-eqb k 0 f) (sym (numerals-stop file next wrongM (n - (p + 1)) (take p caps) (outside 0 (roomFor sum) 3) as-bad k e) ∙ left-suc);
             good = λ z. absurd (f z);
             long = c .long;
           }
 
     -- all are read
-    pub capping-done : n ≤ p → CapsRead file at n (record { number = 0; place = place }) caps
+    pub capping-done : n ≤ p → CapsRead file at n (record { number = 0; next = next }) caps
     unfolding numerals takenOf
     capping-done l =
         let e : p ≡ n = omega (arith, c .few) in
         let z : n - p ≡ 0 = omega arith in
         record {
-          is = ap (λ (q : ℕ). reading (take q caps) place) (sym e) ∙ ap (λ (k : ℕ). numerals wrongM k file place (take p caps)) (sym z) ∙ c .left;
+          is = ap (λ (q : ℕ). reading (take q caps) next) (sym e) ∙ ap (λ (k : ℕ). numerals wrongM k file next (take p caps)) (sym z) ∙ c .left;
           good = λ _. subst (λ (q : ℕ). badSize (ofCaps (take q caps)) ≡ false) e (c .good);
           long = c .long;
         }

@@ -8,19 +8,19 @@ use Rattle.counting.proofs.Checks.{first-here, first-later, first-none}
 use Rattle.parsing.specs.parts.Parsing.{leftOf, endNumber}
 
 -- 15, 16 or 0, by the tests that the code makes
-module _ (file : List ℕ) (place want left : ℕ) (is : left ≡ leftOf file place) where
+module _ (file : List ℕ) (at want left : ℕ) (is : left ≡ leftOf file at) where
   -- it ends too early
-  pub end-15 : left < want → 15 ≡ endNumber file place want
+  pub end-15 : left < want → 15 ≡ endNumber file at want
   unfolding endNumber
-  end-15 l = sym (first-here _ 15 _ (lt-ltb (leftOf file place) want (omega arith)))
+  end-15 l = sym (first-here _ 15 _ (lt-ltb (leftOf file at) want (omega arith)))
 
   -- bytes are left over
-  pub end-16 : want < left → 16 ≡ endNumber file place want
+  pub end-16 : want < left → 16 ≡ endNumber file at want
   unfolding endNumber
-  end-16 l = sym (first-later _ 15 _ (le-ltb (leftOf file place) want (omega arith)) ∙ first-here _ 16 _ (lt-ltb want (leftOf file place) (omega arith)))
+  end-16 l = sym (first-later _ 15 _ (le-ltb (leftOf file at) want (omega arith)) ∙ first-here _ 16 _ (lt-ltb want (leftOf file at) (omega arith)))
 
   -- the cards take them all
-  pub end-0 : want ≤ left → left ≤ want → 0 ≡ endNumber file place want
+  pub end-0 : want ≤ left → left ≤ want → 0 ≡ endNumber file at want
   unfolding endNumber
   end-0 l h =
-      sym (first-later _ 15 _ (le-ltb (leftOf file place) want (omega arith)) ∙ first-later _ 16 _ (le-ltb want (leftOf file place) (omega arith)) ∙ first-none)
+      sym (first-later _ 15 _ (le-ltb (leftOf file at) want (omega arith)) ∙ first-later _ 16 _ (le-ltb want (leftOf file at) (omega arith)) ∙ first-none)

@@ -77,12 +77,12 @@ module _ (raw : List ℕ) (x g : ℕ) (count : length raw ≡ g) where
   more-last = rw more-is (getD-at (each entryOf raw) (entryOf x) [] FREE g (length-each entryOf raw ∙ count))
 
 -- g entries are read: they are at the front of the list and were passed, and what is left is as from the start
-pub record Entering (racks : List Rack) (file : List ℕ) (at g place : ℕ) (places marks : List ℕ) (worst : ℕ) : Type 0 where
+pub record Entering (racks : List Rack) (file : List ℕ) (at g next : ℕ) (places marks : List ℕ) (worst : ℕ) : Type 0 where
   pub few : g ≤ slots racks
   pub raw : List ℕ
   pub count : length raw ≡ g
   pub kept : take g places ≡ each entryOf raw
-  pub left : numerals (wrongEntry racks) (slots racks - g) file place raw ≡ entries racks file at
+  pub left : numerals (wrongEntry racks) (slots racks - g) file next raw ≡ entries racks file at
   pub passed : Passed racks (each entryOf raw) marks worst g
   pub long : length places ≡ 4096
 
@@ -102,22 +102,22 @@ module _ (racks : List Rack) (file : List ℕ) (at : ℕ) (places marks : List �
       }
 
   -- one is refused
-  stopped-read : (k : ℕ) → (k ≡ 0 → ⊥) → length places ≡ 4096 → stopped k ≡ entries racks file at → EntriesRead racks file at (record { number = k; place = 0 }) places
+  stopped-read : (k : ℕ) → (k ≡ 0 → ⊥) → length places ≡ 4096 → stopped k ≡ entries racks file at → EntriesRead racks file at (record { number = k; next = 0 }) places
   unfolding entriesChecks
   stopped-read k f l e =
       record {
         number-is = rw (← e) (sym (first-here _ k _ (ap not (ne-eqb k 0 f))));
-        place-is = λ z. absurd (f z);
+        next-is = λ z. absurd (f z);
         places-are = λ z. absurd (f z);
         long = l;
       }
 
-  module _ (g place worst : ℕ) (c : Entering racks file at g place places marks worst) where
+  module _ (g next worst : ℕ) (c : Entering racks file at g next places marks worst) where
     module _ (small : slots racks ≤ 4096) (l : g < slots racks) where
-      left-suc : numerals (wrongEntry racks) (suc (slots racks - (g + 1))) file place (c .raw) ≡ entries racks file at
+      left-suc : numerals (wrongEntry racks) (suc (slots racks - (g + 1))) file next (c .raw) ≡ entries racks file at
       left-suc =
           let one : suc (slots racks - (g + 1)) ≡ slots racks - g = omega arith in
-          ap (λ (k : ℕ). numerals (wrongEntry racks) k file place (c .raw)) one ∙ c .left
+          ap (λ (k : ℕ). numerals (wrongEntry racks) k file next (c .raw)) one ∙ c .left
 
       as-bad : (v : ℕ) → (outside 0 4096 5 v ≡ 0 → ⊥) → wrongEntry racks (c .raw) v ≡ outside 0 4096 5 v
       as-bad v f = elim (decLe v 4096) [
@@ -126,17 +126,17 @@ module _ (racks : List Rack) (file : List ℕ) (at : ℕ) (places marks : List �
       ]
 
       -- by its form, or one that no slot has
-      pub entering-stop : (k : ℕ) → refused k ≡ ranged 0 4096 5 file place → EntriesRead racks file at (record { number = k; place = 0 }) places
+      pub entering-stop : (k : ℕ) → refused k ≡ ranged 0 4096 5 file next → EntriesRead racks file at (record { number = k; next = 0 }) places
       unfolding ranged
       entering-stop k e =
-          stopped-read k (refused-by file place (outside 0 4096 5) k e .1) (c .long)
-          (sym (numerals-stop file place (wrongEntry racks) (slots racks - (g + 1)) (c .raw) (outside 0 4096 5) as-bad k e) ∙ left-suc)
+          stopped-read k (refused-by file next (outside 0 4096 5) k e .1) (c .long)
+          (sym (numerals-stop file next (wrongEntry racks) (slots racks - (g + 1)) (c .raw) (outside 0 4096 5) as-bad k e) ∙ left-suc)
 
       -- one is between the limits
-      module _ (x next : ℕ) (e : got x next ≡ ranged 0 4096 5 file place) where
+      module _ (x behind : ℕ) (e : got x behind ≡ ranged 0 4096 5 file next) where
         pub entry-small : x ≤ 4096
         unfolding ranged
-        entry-small = inside 0 4096 5 x (omega arith) (passed-good file place (outside 0 4096 5) x next e) .1
+        entry-small = inside 0 4096 5 x (omega arith) (passed-good file next (outside 0 4096 5) x behind e) .1
 
         -- and has its number by the marks
         module _ (y n : ℕ) (after : List ℕ) (ey : y ≡ entryOf x) (entered : Entered marks y n after) where
@@ -154,15 +154,15 @@ module _ (racks : List Rack) (file : List ℕ) (at : ℕ) (places marks : List �
           bad-now = ap (λ (v : ℕ). not (eqb v FREE or isUser racks v)) (more-last (c .raw) x g (c .count)) ∙ sym (wrong-same racks x entry-small)
 
           -- 5: it names no user slot
-          pub entering-5 : n ≡ 5 → EntriesRead racks file at (record { number = 5; place = 0 }) places
+          pub entering-5 : n ≡ 5 → EntriesRead racks file at (record { number = 5; next = 0 }) places
           unfolding ranged
           entering-5 q =
               stopped-read 5 (λ z. omega arith) (c .long)
-              (sym (numerals-bad file place (wrongEntry racks) (slots racks - (g + 1)) (c .raw) (outside 0 4096 5) x next 5 e
+              (sym (numerals-bad file next (wrongEntry racks) (slots racks - (g + 1)) (c .raw) (outside 0 4096 5) x behind 5 e
               (wrong-5 racks x (c .raw) (sym bad-now ∙ bad-5 racks small now g marks worst passed-now n after entered-now q)) (λ z. omega arith)) ∙ left-suc)
 
           -- else one more is read
-          pub entering-more : (n ≡ 5 → ⊥) → Entering racks file at (g + 1) next (set places g y) after (worse worst n)
+          pub entering-more : (n ≡ 5 → ⊥) → Entering racks file at (g + 1) behind (set places g y) after (worse worst n)
           unfolding ranged
           entering-more f =
               record {
@@ -176,22 +176,22 @@ module _ (racks : List Rack) (file : List ℕ) (at : ℕ) (places marks : List �
                     ∙ ap (λ (v : ℕ). each entryOf (c .raw) ++ v ∷ []) ey
                     ∙ sym (more-is (c .raw) x g (c .count));
                 left =
-                    sym (numerals-go file place (wrongEntry racks) (slots racks - (g + 1)) (c .raw) (outside 0 4096 5) x next e
+                    sym (numerals-go file next (wrongEntry racks) (slots racks - (g + 1)) (c .raw) (outside 0 4096 5) x behind e
                     (wrong-0 racks x (c .raw) (sym bad-now ∙ clean-5 racks small now g marks worst passed-now n after entered-now f))) ∙ left-suc;
                 passed = passed-more racks small now g marks worst passed-now n after entered-now f;
                 long = length-set places g y ∙ c .long;
               }
 
     -- all are read
-    pub entering-done : slots racks ≤ g → EntriesRead racks file at (record { number = worst; place = place }) places
+    pub entering-done : slots racks ≤ g → EntriesRead racks file at (record { number = worst; next = next }) places
     unfolding numerals entriesChecks badTwice first
     entering-done l =
         let e : g ≡ slots racks = omega (arith, c .few) in
         let z : slots racks - g ≡ 0 = omega arith in
-        let r : reading (c .raw) place ≡ entries racks file at = ap (λ (k : ℕ). numerals (wrongEntry racks) k file place (c .raw)) (sym z) ∙ c .left in
+        let r : reading (c .raw) next ≡ entries racks file at = ap (λ (k : ℕ). numerals (wrongEntry racks) k file next (c .raw)) (sym z) ∙ c .left in
         record {
           number-is = rw (← r) (c .passed .worst-is ∙ ap (λ (k : ℕ). pick (some k (repeats (each entryOf (c .raw)))) 6 0) (sym (length-each entryOf (c .raw) ∙ c .count)));
-          place-is = λ _. ap (λ (y : Numerals). y .place) r;
+          next-is = λ _. ap (λ (y : Numerals). y .next) r;
           places-are = λ _. ap (λ (k : ℕ). take k places) (sym e) ∙ c .kept ∙ ap (λ (y : Numerals). each entryOf (y .values)) r;
           long = c .long;
         }

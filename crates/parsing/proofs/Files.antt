@@ -86,14 +86,14 @@ module _ (file : List ℕ) where
     file-entries n e f = e ∙ sym (past-head ∙ first-append (entriesChecks (readEntries file)) _ (λ z. f (e ∙ z)))
 
     -- the card bytes
-    pub file-end : (place want : ℕ) → first (entriesChecks (readEntries file)) ≡ 0 → place ≡ readEntries file .place → want ≡ slots (fileRacks file) * fileBytes file
-        → endNumber file place want ≡ first (fileChecks file)
+    pub file-end : (at want : ℕ) → first (entriesChecks (readEntries file)) ≡ 0 → at ≡ readEntries file .next → want ≡ slots (fileRacks file) * fileBytes file
+        → endNumber file at want ≡ first (fileChecks file)
     unfolding endNumber leftOf fileCards
-    file-end place want ze ep ew = rw (ep, ew) (sym (past-head ∙ sure-past _ entries-sure ze))
+    file-end at want ze ep ew = rw (ep, ew) (sym (past-head ∙ sure-past _ entries-sure ze))
 
 -- an answer, by its fields
 abbrev made : Answer → ℕ → ℕ → ℕ → ℕ → FileAnswer
-made a n b s p = record { answer = a; racks = n; bytes = b; slots = s; place = p }
+made a n b s p = record { answer = a; racks = n; bytes = b; slots = s; start = p }
 
 same-made : {a a′ : Answer} {n n′ b b′ s s′ p p′ : ℕ} → a ≡ a′ → n ≡ n′ → b ≡ b′ → s ≡ s′ → p ≡ p′ → made a n b s p ≡ made a′ n′ b′ s′ p′
 same-made ea en eb es ep = rw (ea, en, eb, es, ep)
@@ -132,18 +132,18 @@ module _ (file : List ℕ) (head : Head) (caps : List ℕ) (h : Headed file head
   want-is = rw (job-slots, h .bytes-are)
 
   -- the entries of that job are the file's
-  module _ (taken : Taken) (places : List ℕ) (r : EntriesRead (racksOf job) file (head .place) taken places) where
-    entries-are : entries (racksOf job) file (head .place) ≡ readEntries file
+  module _ (taken : Taken) (places : List ℕ) (r : EntriesRead (racksOf job) file (head .next) taken places) where
+    entries-are : entries (racksOf job) file (head .next) ≡ readEntries file
     unfolding entries readEntries
-    entries-are = rw (job-racks, h .place-is)
+    entries-are = rw (job-racks, h .next-is)
 
     -- 14, 15, 5 or 6
     pub taken-number : taken .number ≡ first (entriesChecks (readEntries file))
     taken-number = rw (← entries-are) (r .number-is)
 
-    -- where they are done, the place behind them
-    pub taken-place : taken .number ≡ 0 → taken .place ≡ readEntries file .place
-    taken-place z = rw (← entries-are) (r .place-is z)
+    -- where they are done, the position behind them
+    pub taken-next : taken .number ≡ 0 → taken .next ≡ readEntries file .next
+    taken-next z = rw (← entries-are) (r .next-is z)
 
     -- and the places table
     pub taken-places : taken .number ≡ 0 → take (job .slots) places ≡ filePlaces file
@@ -176,13 +176,13 @@ module _ (file caps places : List ℕ) (long : (length caps ≡ 64) × (length p
       }
 
   module _ (head : Head) (h : Headed file head caps) (job : Job) (is : job ≡ jobOf (ofCaps (take (head .racks) caps)))
-      (taken : Taken) (r : EntriesRead (racksOf job) file (head .place) taken places) (z : taken .number ≡ 0)
+      (taken : Taken) (r : EntriesRead (racksOf job) file (head .next) taken places) (z : taken .number ≡ 0)
       (a : Answer) (ea : a ≡ answer 0 noCounts) (q : 0 ≡ first (fileChecks file)) where
     -- done: the answer, and both lists
-    pub parsed-done : Parsed file (made a (head .racks) (head .bytes) (job .slots) (taken .place)) caps places
+    pub parsed-done : Parsed file (made a (head .racks) (head .bytes) (job .slots) (taken .next)) caps places
     parsed-done =
         record {
-          is = rw (← q) (same-made ea (h .racks-are) (h .bytes-are) (job-slots file head caps h job is) (taken-place file head caps h job is taken places r z));
+          is = rw (← q) (same-made ea (h .racks-are) (h .bytes-are) (job-slots file head caps h job is) (taken-next file head caps h job is taken places r z));
           caps-are = λ _. h .caps-are;
           places-are = λ _. taken-places file head caps h job is taken places r z;
           few = (h .few, job-small file head caps h job is);

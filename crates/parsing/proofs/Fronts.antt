@@ -87,7 +87,7 @@ module _ (file : List ℕ) (caps : List ℕ) (long : length caps ≡ 64) where
     head-B k e′ =
         let f = refused-by file p (outside 1 256 2) k e′ .1 in
         let r : readB file .number ≡ k =
-        ap (λ (x : Numerals). numerals wrongB 1 file (x .place) [] .number) is-N ∙ ap (λ (x : Numerals). x .number) (one-refused file p wrongB (outside 1 256 2) same-B k e′) in
+        ap (λ (x : Numerals). numerals wrongB 1 file (x .next) [] .number) is-N ∙ ap (λ (x : Numerals). x .number) (one-refused file p wrongB (outside 1 256 2) same-B k e′) in
         record {
           number-is = sym (first-later _ _ _ past-N ∙ first-here _ _ _ (known _ k r f) ∙ r);
           headed = λ z. absurd (f z);
@@ -98,18 +98,18 @@ module _ (file : List ℕ) (caps : List ℕ) (long : length caps ≡ 64) where
     module _ (b q : ℕ) (e′ : got b q ≡ ranged 1 256 2 file p) (t : Taken) (after : List ℕ) (c : CapsRead file q n t after) where
       is-B : readB file ≡ reading (b ∷ []) q
       unfolding ranged readB
-      is-B = ap (λ (x : Numerals). numerals wrongB 1 file (x .place) []) is-N ∙ one-value file p wrongB (outside 1 256 2) same-B b q e′
+      is-B = ap (λ (x : Numerals). numerals wrongB 1 file (x .next) []) is-N ∙ one-value file p wrongB (outside 1 256 2) same-B b q e′
 
       is-M : readM file ≡ takenOf t (take n after)
       unfolding readM
-      is-M = ap (λ (x : Numerals). numerals wrongM (getD (x .values) 0 0) file (readB file .place) []) is-N ∙ ap (λ (x : Numerals). numerals wrongM n file (x .place) []) is-B ∙ sym (c .is)
+      is-M = ap (λ (x : Numerals). numerals wrongM (getD (x .values) 0 0) file (readB file .next) []) is-N ∙ ap (λ (x : Numerals). numerals wrongM n file (x .next) []) is-B ∙ sym (c .is)
 
       M-number : readM file .number ≡ t .number
       unfolding takenOf
       M-number = ap (λ (x : Numerals). x .number) is-M
 
       abbrev made : Head
-      made = record { number = t .number; racks = n; bytes = b; place = t .place }
+      made = record { number = t .number; racks = n; bytes = b; next = t .next }
 
       values-M : t .number ≡ 0 → readM file .values ≡ take n after
       unfolding takenOf
@@ -141,7 +141,7 @@ module _ (file : List ℕ) (caps : List ℕ) (long : length caps ≡ 64) where
               few = N-small .1;
               bytes-are = sym (ap (λ (x : Numerals). getD (x .values) 0 0) is-B);
               small = inside 1 256 2 b (omega arith) (passed-good file p (outside 1 256 2) b q e′) .1;
-              place-is = sym (ap (λ (x : Numerals). x .place) is-M);
+              next-is = sym (ap (λ (x : Numerals). x .next) is-M);
               caps-are = sym (values-M z);
               good = good-M z;
             };

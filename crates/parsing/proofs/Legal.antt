@@ -31,7 +31,7 @@ use Rattle.parsing.proofs.Entries.{wrong-file, wrong-same}
 module _ (bad : List ℕ → ℕ → ℕ) (file : List ℕ) where
   -- one is read, and passes, and then the others
   pub one-more : (n at : ℕ) (before : List ℕ) → numerals bad (suc n) file at before .number ≡ 0
-      → (numerals bad (suc n) file at before ≡ numerals bad n file (numeral file at .place) (before ++ numeral file at .value ∷ []))
+      → (numerals bad (suc n) file at before ≡ numerals bad n file (numeral file at .next) (before ++ numeral file at .value ∷ []))
       × (numeral file at .number ≡ 0)
       × (bad before (numeral file at .value) ≡ 0)
   unfolding numerals
@@ -48,7 +48,7 @@ module _ (bad : List ℕ → ℕ → ℕ) (file : List ℕ) where
   numerals-keep P step (suc n) at before p z =
       let o = one-more n at before z in
       subst (λ (r : Numerals). P (r .values)) (sym (o .0))
-      (numerals-keep P step n (numeral file at .place) (before ++ numeral file at .value ∷ []) (step before (numeral file at .value) (o .2) p) (sym (ap (λ (r : Numerals). r .number) (o .0)) ∙ z))
+      (numerals-keep P step n (numeral file at .next) (before ++ numeral file at .value ∷ []) (step before (numeral file at .value) (o .2) p) (sym (ap (λ (r : Numerals). r .number) (o .0)) ∙ z))
 
   -- there are n of them
   pub numerals-length : (n at : ℕ) (before : List ℕ) → numerals bad n file at before .number ≡ 0 → length (numerals bad n file at before .values) ≡ n + length before
@@ -56,7 +56,7 @@ module _ (bad : List ℕ → ℕ → ℕ) (file : List ℕ) where
   numerals-length (suc n) at before z =
       let o = one-more n at before z in
       ap (λ (r : Numerals). length (r .values)) (o .0)
-      ∙ numerals-length n (numeral file at .place) (before ++ numeral file at .value ∷ []) (sym (ap (λ (r : Numerals). r .number) (o .0)) ∙ z)
+      ∙ numerals-length n (numeral file at .next) (before ++ numeral file at .value ∷ []) (sym (ap (λ (r : Numerals). r .number) (o .0)) ∙ z)
       ∙ rw length-append (omega arith)
 
   -- each passes
@@ -115,7 +115,7 @@ module _ (file : List ℕ) (a : Accepted file) where
   -- N is the number of racks
   pub racks-N : length (fileRacks file) ≡ getD (readN file .values) 0 0
   unfolding fileRacks readM
-  racks-N = length-caps (readM file .values) ∙ numerals-length wrongM file (getD (readN file .values) 0 0) (readB file .place) [] (a .M-read) ∙ omega arith
+  racks-N = length-caps (readM file .values) ∙ numerals-length wrongM file (getD (readN file .values) 0 0) (readB file .next) [] (a .M-read) ∙ omega arith
 
   count-ok : badCount (length (fileRacks file)) ≡ false
   unfolding readN wrongN
@@ -124,13 +124,13 @@ module _ (file : List ℕ) (a : Accepted file) where
   bytes-ok : badBytes (fileBytes file) ≡ false
   unfolding readB wrongB fileBytes
   bytes-ok =
-      numerals-each wrongB file (λ x. badBytes x ≡ false) (λ b x e. one-off (badBytes x) 2 (λ q. omega arith) e) 1 (readN file .place) (a .B-read) 0
-      (omega (arith, numerals-length wrongB file 1 (readN file .place) [] (a .B-read)))
+      numerals-each wrongB file (λ x. badBytes x ≡ false) (λ b x e. one-off (badBytes x) 2 (λ q. omega arith) e) 1 (readN file .next) (a .B-read) 0
+      (omega (arith, numerals-length wrongB file 1 (readN file .next) [] (a .B-read)))
 
   size-ok : badSize (fileRacks file) ≡ false
   unfolding readM wrongM fileRacks
   size-ok =
-      numerals-keep wrongM file (λ b. badSize (ofCaps b) ≡ false) (λ b x e _. one-off _ 3 (λ q. omega arith) e) (getD (readN file .values) 0 0) (readB file .place) [] size-none (a .M-read)
+      numerals-keep wrongM file (λ b. badSize (ofCaps b) ≡ false) (λ b x e _. one-off _ 3 (λ q. omega arith) e) (getD (readN file .values) 0 0) (readB file .next) [] size-none (a .M-read)
 
   small : slots (fileRacks file) ≤ 4096
   unfolding fileRacks
@@ -139,7 +139,7 @@ module _ (file : List ℕ) (a : Accepted file) where
   -- S entries
   pub entries-length : length (readEntries file .values) ≡ slots (fileRacks file)
   unfolding readEntries
-  entries-length = numerals-length (wrongEntry (fileRacks file)) file (slots (fileRacks file)) (readM file .place) [] (a .entries-read) ∙ omega arith
+  entries-length = numerals-length (wrongEntry (fileRacks file)) file (slots (fileRacks file)) (readM file .next) [] (a .entries-read) ∙ omega arith
 
   places-length : length (filePlaces file) ≡ slots (fileRacks file)
   unfolding filePlaces
@@ -150,7 +150,7 @@ module _ (file : List ℕ) (a : Accepted file) where
   unfolding readEntries wrongEntry
   entry-right g l =
       numerals-each (wrongEntry (fileRacks file)) file (λ x. wrong-file (fileRacks file) x ≡ false) (λ b x e. one-off _ 5 (λ q. omega arith) e)
-      (slots (fileRacks file)) (readM file .place) (a .entries-read) g (omega (arith, entries-length))
+      (slots (fileRacks file)) (readM file .next) (a .entries-read) g (omega (arith, entries-length))
 
   -- and so is at most 4,096
   pub entry-small : (x : ℕ) → wrong-file (fileRacks file) x ≡ false → x ≤ 4096

@@ -11,7 +11,7 @@ use Rattle.parsing.specs.declared.FileAnswer.{FileAnswer}
 
 -- a refusal: its number, no counts, and 0 for every other
 abbrev pub refusedFile : ℕ → FileAnswer
-refusedFile n = record { answer = answer n noCounts; racks = 0; bytes = 0; slots = 0; place = 0 }
+refusedFile n = record { answer = answer n noCounts; racks = 0; bytes = 0; slots = 0; start = 0 }
 
 -- the answer of a file that is done: N, B, S and where the card bytes begin
 abbrev pub doneFile : List ℕ → FileAnswer
@@ -21,7 +21,7 @@ doneFile file =
       racks = length (fileRacks file);
       bytes = fileBytes file;
       slots = slots (fileRacks file);
-      place = readEntries file .place;
+      start = readEntries file .next;
     }
 
 -- the answer of a file that gives number n

@@ -41,11 +41,11 @@ module _ (file : List ℕ) where
 
   -- B
   unfoldable pub readB : Numerals
-  readB = numerals wrongB 1 file (readN .place) []
+  readB = numerals wrongB 1 file (readN .next) []
 
   -- the m_p
   unfoldable pub readM : Numerals
-  readM = numerals wrongM (getD (readN .values) 0 0) file (readB .place) []
+  readM = numerals wrongM (getD (readN .values) 0 0) file (readB .next) []
 
   -- the racks that they give
   unfoldable pub fileRacks : List Rack
@@ -53,7 +53,7 @@ module _ (file : List ℕ) where
 
   -- S entries
   unfoldable pub readEntries : Numerals
-  readEntries = numerals (wrongEntry fileRacks) (slots fileRacks) file (readM .place) []
+  readEntries = numerals (wrongEntry fileRacks) (slots fileRacks) file (readM .next) []
 
   -- B, once read
   unfoldable pub fileBytes : ℕ
@@ -65,7 +65,7 @@ module _ (file : List ℕ) where
 
   -- the bytes behind the last entry: the cards, where there are S·B
   unfoldable pub fileCards : List ℕ
-  fileCards = drop (readEntries .place) file
+  fileCards = drop (readEntries .next) file
 
   -- each numeral as read; after the last entry 6, then 15 or 16 for the card bytes
   unfoldable pub fileChecks : List Check
@@ -87,7 +87,7 @@ pub record Read : Type 0 where
   pub slots : ℕ
   pub caps : List ℕ
   pub places : List ℕ
-  pub place : ℕ
+  pub start : ℕ
   pub cards : List ℕ
 
 -- then 17: room for capacities below N, or for places below S
@@ -108,6 +108,6 @@ read file caps places =
       slots = pick (done n) (slots (fileRacks file)) 0;
       caps = written n caps (readM file .values);
       places = written n places (filePlaces file);
-      place = pick (done n) (readEntries file .place) 0;
+      start = pick (done n) (readEntries file .next) 0;
       cards = pick (done n) (fileCards file) [];
     }

@@ -3,11 +3,11 @@ use answers::Answer;
 
 pub mod parts;
 
-// What the file reader gives: N, B, S and the place where the card bytes begin; all 0 on a refusal.
+// What the file reader gives: N, B, S and where the card bytes begin; all 0 on a refusal.
 pub struct FileAnswer {
     pub answer: Answer,
     pub racks: usize,
     pub bytes: usize,
     pub slots: usize,
-    pub place: usize,
+    pub start: usize,
 }

@@ -16,10 +16,10 @@ use numerals::Numeral;
 use numerals::parts::bounded_numeral;
 use racks::Job;
 
-// What numerals read one after another give: 0 or the refusal, and the place behind them.
+// What numerals read one after another give: 0 or the refusal, and the position behind them.
 pub struct Taken {
     pub number: u8,
-    pub place: usize,
+    pub next: usize,
 }
 
 // The highest m_p that is not refused, with `total` user slots before it.
@@ -39,32 +39,32 @@ fn read_caps(file: &[u8], at: usize, n: usize, caps: &mut [u16; Job::MAX_RACKS])
     requires { ⌜ (n ≤ RACKS) × (length (now caps) ≡ RACKS) ⌝ }
     ensures { λ r. ⌜ CapsRead (now (file .entry)) at n r (now (caps .exit)) ⌝ }
 {
-    let mut place = at;
+    let mut next = at;
     let mut total: usize = 0;
     let mut p: usize = 0;
     while p < n {
         let high = room_for(total);
-        let got = bounded_numeral(file, place, 0, high, 3);
-        let Numeral::Value(m, next) = got else {
+        let got = bounded_numeral(file, next, 0, high, 3);
+        let Numeral::Value(m, behind) = got else {
             return Taken {
                 number: numerals::parts::refused_with(got),
-                place: 0,
+                next: 0,
             };
         };
         caps[p] = m as u16;
         total = total + m;
-        place = next;
+        next = behind;
         p = p + 1;
     }
-    Taken { number: 0, place }
+    Taken { number: 0, next }
 }
 
-// What the front of a file gives: 0 or the refusal, N, B, and the place behind the capacities.
+// What the front of a file gives: 0 or the refusal, N, B, and the position behind the capacities.
 pub struct Head {
     pub number: u8,
     pub racks: usize,
     pub bytes: usize,
-    pub place: usize,
+    pub next: usize,
 }
 
 // The front refused with what a numeral is refused with.
@@ -75,7 +75,7 @@ fn no_head(got: Numeral) -> Head
         number: numerals::parts::refused_with(got),
         racks: 0,
         bytes: 0,
-        place: 0,
+        next: 0,
     }
 }
 
@@ -97,7 +97,7 @@ fn read_head(file: &[u8], caps: &mut [u16; Job::MAX_RACKS]) -> Head
         number: taken.number,
         racks,
         bytes,
-        place: taken.place,
+        next: taken.next,
     }
 }
 
@@ -131,33 +131,30 @@ fn read_entries(
     requires { ⌜ Sound job × UsersMarked (racksOf job) (now marks) × (length (now places) ≡ SLOTS) ⌝ }
     ensures { λ r. ⌜ EntriesRead (racksOf job) (now (file .entry)) at r (now (places .exit)) ⌝ }
 {
-    let mut place = at;
+    let mut next = at;
     let mut worst: u8 = 0;
     let mut g: usize = 0;
     while g < job.slots {
-        let got = bounded_numeral(file, place, 0, Job::MAX_SLOTS, 5);
-        let Numeral::Value(x, next) = got else {
+        let got = bounded_numeral(file, next, 0, Job::MAX_SLOTS, 5);
+        let Numeral::Value(x, behind) = got else {
             return Taken {
                 number: numerals::parts::refused_with(got),
-                place: 0,
+                next: 0,
             };
         };
         let entry = entry_of(x);
         let number = entries::parts::entry_number(marks, entry);
         if number == 5 {
-            return Taken {
-                number: 5,
-                place: 0,
-            };
+            return Taken { number: 5, next: 0 };
         }
         places[g] = entry;
         worst = entries::parts::worse_of(worst, number);
-        place = next;
+        next = behind;
         g = g + 1;
     }
     Taken {
         number: worst,
-        place,
+        next,
     }
 }
 
@@ -171,11 +168,11 @@ fn read_table(job: Job, file: &[u8], at: usize, places: &mut [u16; Job::MAX_SLOT
     read_entries(job, file, at, &mut marks, places)
 }
 
-// 15 or 16 where the bytes behind a place are not as many as the cards take, else 0.
-fn end_number(file: &[u8], place: usize, want: usize) -> u8
-    ensures { λ r. ⌜ r ≡ endNumber (now (file .entry)) place want ⌝ }
+// 15 or 16 where the bytes behind a position are not as many as the cards take, else 0.
+fn end_number(file: &[u8], at: usize, want: usize) -> u8
+    ensures { λ r. ⌜ r ≡ endNumber (now (file .entry)) at want ⌝ }
 {
-    let left = left_of(file, place);
+    let left = left_of(file, at);
     if left < want {
         return 15;
     }
@@ -185,14 +182,14 @@ fn end_number(file: &[u8], place: usize, want: usize) -> u8
     0
 }
 
-// How many bytes lie behind a place.
-fn left_of(file: &[u8], place: usize) -> usize
-    ensures { λ r. ⌜ r ≡ leftOf (now (file .entry)) place ⌝ }
+// How many bytes lie behind a position.
+fn left_of(file: &[u8], at: usize) -> usize
+    ensures { λ r. ⌜ r ≡ leftOf (now (file .entry)) at ⌝ }
 {
-    if file.len() < place {
+    if file.len() < at {
         return 0;
     }
-    file.len() - place
+    file.len() - at
 }
 
 // A refusal: its number, and 0 for every other.
@@ -205,7 +202,7 @@ pub fn refused(number: u8) -> FileAnswer
         racks: 0,
         bytes: 0,
         slots: 0,
-        place: 0,
+        start: 0,
     }
 }
 
@@ -223,11 +220,11 @@ pub fn parse(
         return refused(head.number);
     }
     let job = job_of_first(caps, head.racks);
-    let taken = read_table(job, file, head.place, places);
+    let taken = read_table(job, file, head.next, places);
     if taken.number != 0 {
         return refused(taken.number);
     }
-    let number = end_number(file, taken.place, job.slots * head.bytes);
+    let number = end_number(file, taken.next, job.slots * head.bytes);
     if number != 0 {
         return refused(number);
     }
@@ -237,6 +234,6 @@ pub fn parse(
         racks: head.racks,
         bytes: head.bytes,
         slots: job.slots,
-        place: taken.place,
+        start: taken.next,
     }
 }

@@ -27,16 +27,16 @@ use Rattle.roundtrip.specs.RoundTrip.{Bytes}
 use Rattle.roundtrip.proofs.ReadBack.{read-back}
 use Rattle.roundtrip.proofs.WriteBack.{write-back}
 
--- what a job is read as, into lent lists, from a file where its card bytes begin at `place`
+-- what a job is read as, into lent lists, from a file where its card bytes begin at `start`
 abbrev pub readAs : List ℕ → ℕ → List ℕ → List ℕ → ℕ → List ℕ → List ℕ → Read
-readAs caps b places cards place lent lent′ = record {
+readAs caps b places cards start lent lent′ = record {
   answer = answer 0 noCounts;
   racks = length caps;
   bytes = b;
   slots = length places;
   caps = sets lent 0 caps;
   places = sets lent′ 0 places;
-  place = place;
+  start = start;
   cards = cards;
 }
 
@@ -64,7 +64,7 @@ module _ (file lent lent′ : List ℕ) where
         (omega (arith, ltb-false (length lent) (length (fileRacks file)) (or-off-l _ h)), omega (arith, ltb-false (length lent′) (slots (fileRacks file)) (or-off-r (ltb (length lent) (length (fileRacks file))) h)))
 
     -- what is read, by the file's own parts
-    parts : read file lent lent′ ≡ readAs (readM file .values) (fileBytes file) (filePlaces file) (fileCards file) (readEntries file .place) lent lent′
+    parts : read file lent lent′ ≡ readAs (readM file .values) (fileBytes file) (filePlaces file) (fileCards file) (readEntries file .next) lent lent′
     unfolding read fileRacks
     parts = rw (z, length-caps (readM file .values), sym (cards-pass (fileRacks file) (fileBytes file) (filePlaces file) (fileCards file) (file-legal file none) .0 .long))
 
@@ -109,9 +109,9 @@ module _ (caps : List ℕ) (b : ℕ) (places cards lent : List ℕ) (r : SizeAns
       let k = read-back caps b places cards accepted in
       let racks : fileRacks file ≡ ofCaps caps = unfold fileRacks in ap ofCaps (k .caps-are) in
       let long = cards-pass (ofCaps caps) b places cards accepted .0 .long in
-      let place : readEntries file .place ≡ r .size - length cards = omega (arith, k .place-is, written-size) in
+      let start : readEntries file .next ≡ r .size - length cards = omega (arith, k .next-is, written-size) in
       let e = parts file lent₁ lent₂ (read-done file lent₁ lent₂ (k .none) (omega (arith, ap length racks, length-caps caps)) (omega (arith, ap slots racks, long))) in
-      rw written-front (e ∙ rw (k .caps-are, k .bytes-are, k .places-are, k .cards-are, place))
+      rw written-front (e ∙ rw (k .caps-are, k .bytes-are, k .places-are, k .cards-are, start))
 
 -- what was read, written
 module _ (file lent₁ lent₂ : List ℕ) (bytes : Bytes file) (z : read file lent₁ lent₂ .answer .number ≡ 0) where

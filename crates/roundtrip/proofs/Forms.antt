@@ -31,14 +31,14 @@ last-only-one value weight x next z e = elim (ℕ-discrete weight 1) [
   | no f ↦ absurd (omega (arith, ap (λ (g : Got). g .number) (last-14 value weight x next e f)))
 ]
 
--- what was read at a place: a number of at most n groups, which stands there in its shortest form
+-- what was read at a position: a number of at most n groups, which stands there in its shortest form
 record Formed (n : ℕ) (file : List ℕ) (at value weight : ℕ) (r : Got) : Type 0 where
   pub number : ℕ
   pub value-is : r .value ≡ value + number * weight
   pub alone : number ≡ 0 → weight ≡ 1
-  pub form : drop at file ≡ groupsOf n number ++ drop (r .place) file
+  pub form : drop at file ≡ groupsOf n number ++ drop (r .next) file
 
--- groups at a place inside the file
+-- groups at a position inside the file
 module _ (file : List ℕ) (n at value weight : ℕ) (l : at < length file) where
   -- the group that stands there
   abbrev x : ℕ
@@ -89,12 +89,12 @@ formed (suc n) file bytes at value weight z = elim (decLe (length file) at) [
 ]
 
 -- a numeral that is read stands there as it is written
-pub numeral-form : (file : List ℕ) → Bytes file → (at : ℕ) → numeral file at .number ≡ 0 → drop at file ≡ numeralOf (numeral file at .value) ++ drop (numeral file at .place) file
+pub numeral-form : (file : List ℕ) → Bytes file → (at : ℕ) → numeral file at .number ≡ 0 → drop at file ≡ numeralOf (numeral file at .value) ++ drop (numeral file at .next) file
 unfolding numeral numeralOf
 numeral-form file bytes at z =
     let f = formed 3 file bytes at 0 1 z in
     let e : f .number ≡ groups 3 file at 0 1 .value = omega (arith, f .value-is) in
-    f .form ∙ ap (λ (x : ℕ). groupsOf 3 x ++ drop (groups 3 file at 0 1 .place) file) e
+    f .form ∙ ap (λ (x : ℕ). groupsOf 3 x ++ drop (groups 3 file at 0 1 .next) file) e
 
 -- one number, as it is written
 one-number : (x : ℕ) → join (each numeralOf (x ∷ [])) ≡ numeralOf x
@@ -103,20 +103,20 @@ one-number x = append-nil (numeralOf x)
 
 -- and so do numerals, behind those before them
 numerals-more : (bad : List ℕ → ℕ → ℕ) (file : List ℕ) → Bytes file → (n at : ℕ) (before : List ℕ) → numerals bad n file at before .number ≡ 0
-    → join (each numeralOf before) ++ drop at file ≡ join (each numeralOf (numerals bad n file at before .values)) ++ drop (numerals bad n file at before .place) file
+    → join (each numeralOf before) ++ drop at file ≡ join (each numeralOf (numerals bad n file at before .values)) ++ drop (numerals bad n file at before .next) file
 numerals-more bad file bytes zero at before z = unfold numerals in refl
 numerals-more bad file bytes (suc n) at before z =
     let o = one-more bad file n at before z in
     let v = numeral file at .value in
-    let p = numeral file at .place in
+    let p = numeral file at .next in
     ap (λ (l : List ℕ). join (each numeralOf before) ++ l) (numeral-form file bytes at (o .1) ∙ ap (λ (l : List ℕ). l ++ drop p file) (sym (one-number v)))
     ∙ sym (numbers-append before (v ∷ []) (drop p file))
     ∙ numerals-more bad file bytes n p (before ++ v ∷ []) (sym (ap (λ (r : Numerals). r .number) (o .0)) ∙ z)
-    ∙ ap (λ (r : Numerals). join (each numeralOf (r .values)) ++ drop (r .place) file) (sym (o .0))
+    ∙ ap (λ (r : Numerals). join (each numeralOf (r .values)) ++ drop (r .next) file) (sym (o .0))
 
--- what was read at a place stands there as it is written
+-- what was read at a position stands there as it is written
 abbrev pub Stands : List ℕ → ℕ → Numerals → Type 0
-Stands file at r = drop at file ≡ join (each numeralOf (r .values)) ++ drop (r .place) file
+Stands file at r = drop at file ≡ join (each numeralOf (r .values)) ++ drop (r .next) file
 
 -- numerals that are read do
 pub numerals-form : (bad : List ℕ → ℕ → ℕ) (file : List ℕ) → Bytes file → (n at : ℕ) → numerals bad n file at [] .number ≡ 0 → Stands file at (numerals bad n file at [])

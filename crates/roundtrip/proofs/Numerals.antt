@@ -19,7 +19,7 @@ use Rattle.numerals.proofs.Numerals.{got, reading, numerals-on}
 use Rattle.jobwriter.specs.Writing.{groupsOf, numeralOf}
 use Rattle.roundtrip.specs.parts.Reading.{Passing}
 
--- what stands at a place, and what comes behind it
+-- what stands at a position, and what comes behind it
 front : (file : List ℕ) (at x : ℕ) (rest : List ℕ) → drop at file ≡ x ∷ rest → (at < length file) × (getD file at 0 ≡ x) × (drop (suc at) file ≡ rest)
 front file at x rest e =
     let l : at < length file = omega (arith, sym (length-drop at file) ∙ ap length e) in
@@ -48,7 +48,7 @@ last-good value weight x next w = elim (ℕ-discrete x 0) [
   | no f ↦ sym (last-some value weight x next f)
 ]
 
--- a number at a place
+-- a number at a position
 module _ (n : ℕ) (file : List ℕ) (at value weight x : ℕ) (post : List ℕ) (e : drop at file ≡ groupsOf (suc n) x ++ post) where
   -- its last group is read
   read-last : x < 128 → (x ≡ 0 → weight ≡ 1) → groups (suc n) file at value weight ≡ got (value + x * weight) (at + length (groupsOf (suc n) x))
@@ -135,12 +135,12 @@ seam pre a post = ap (drop (length pre)) (append-assoc pre a post) ∙ drop-appe
 
 -- a numeral behind a front
 pub read-numeral : (x : ℕ) (pre post : List ℕ) → x < 2097152
-    → numeral (pre ++ numeralOf x ++ post) (length pre) ≡ record { number = 0; value = x; place = length pre + length (numeralOf x) }
+    → numeral (pre ++ numeralOf x ++ post) (length pre) ≡ record { number = 0; value = x; next = length pre + length (numeralOf x) }
 read-numeral x pre post l = numeral-at (pre ++ numeralOf x ++ post) (length pre) x post l (seam pre (numeralOf x) post)
 
 -- numerals behind a front
 pub read-numerals : (bad : List ℕ → ℕ → ℕ) (xs pre post before : List ℕ) → Passing bad before xs
     → numerals bad (length xs) (pre ++ join (each numeralOf xs) ++ post) (length pre) before
-    ≡ record { number = 0; values = before ++ xs; place = length pre + length (join (each numeralOf xs)) }
+    ≡ record { number = 0; values = before ++ xs; next = length pre + length (join (each numeralOf xs)) }
 read-numerals bad xs pre post before p =
     numerals-at bad xs (pre ++ join (each numeralOf xs) ++ post) (length pre) before post p (seam pre (join (each numeralOf xs)) post)

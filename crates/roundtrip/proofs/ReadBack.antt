@@ -32,7 +32,7 @@ use Rattle.roundtrip.proofs.Tables.{each-back, caps-back, entry-back, o
 record Taken (r : Numerals) (file xs rest : List ℕ) : Type 0 where
   pub done : r .number ≡ 0
   pub are : r .values ≡ xs
-  pub left : drop (r .place) file ≡ rest
+  pub left : drop (r .next) file ≡ rest
 
 -- numbers that were written are read
 taken : (bad : List ℕ → ℕ → ℕ) (n : ℕ) (xs file : List ℕ) (at : ℕ) (rest : List ℕ) → n ≡ length xs → Passing bad [] xs → drop at file ≡ join (each numeralOf xs) ++ rest
@@ -42,7 +42,7 @@ taken bad n xs file at rest c p e =
     record {
       done = ap (λ (x : Numerals). x .number) r;
       are = ap (λ (x : Numerals). x .values) r;
-      left = ap (λ (x : Numerals). drop (x .place) file) r ∙ behind file at (join (each numeralOf xs)) rest e;
+      left = ap (λ (x : Numerals). drop (x .next) file) r ∙ behind file at (join (each numeralOf xs)) rest e;
     }
 
 -- one number passes
@@ -123,14 +123,14 @@ module _ (caps : List ℕ) (b : ℕ) (places cards : List ℕ) (ok : Passed (ofC
   B-taken : Taken (readB file) file (b ∷ []) from-caps
   unfolding readB wrongB badBytes
   B-taken =
-      taken wrongB 1 (b ∷ []) file (readN file .place) from-caps refl
+      taken wrongB 1 (b ∷ []) file (readN file .next) from-caps refl
       (one-passes wrongB b (omega (arith, ltb-false 256 b (or-off-r _ (ok .bytes)))) (one-clear _ 2 (ok .bytes))) (N-taken .left)
 
   -- then the m_p
   M-taken : Taken (readM file) file caps from-entries
   unfolding readM
   M-taken =
-      taken wrongM (getD (readN file .values) 0 0) caps file (readB file .place) from-entries (ap (λ (l : List ℕ). getD l 0 0) (N-taken .are) ∙ length-caps caps)
+      taken wrongM (getD (readN file .values) 0 0) caps file (readB file .next) from-entries (ap (λ (l : List ℕ). getD l 0 0) (N-taken .are) ∙ length-caps caps)
       (caps-pass caps (ok .size)) (B-taken .left)
 
   -- so the racks are the job's
@@ -148,8 +148,8 @@ module _ (caps : List ℕ) (b : ℕ) (places cards : List ℕ) (ok : Passed (ofC
   entries-taken : Taken (readEntries file) file numbers cards
   unfolding readEntries
   entries-taken =
-      subst (λ (r : List Rack). Taken (numerals (wrongEntry r) (slots r) file (readM file .place) []) file numbers cards) (sym racks-are)
-      (taken (wrongEntry racks) (slots racks) numbers file (readM file .place) cards (sym (length-each fileEntry places ∙ ok .named)) entries-pass (M-taken .left))
+      subst (λ (r : List Rack). Taken (numerals (wrongEntry r) (slots r) file (readM file .next) []) file numbers cards) (sym racks-are)
+      (taken (wrongEntry racks) (slots racks) numbers file (readM file .next) cards (sym (length-each fileEntry places ∙ ok .named)) entries-pass (M-taken .left))
 
   -- so is B
   bytes-back : fileBytes file ≡ b
@@ -167,12 +167,12 @@ module _ (caps : List ℕ) (b : ℕ) (places cards : List ℕ) (ok : Passed (ofC
   cards-back = entries-taken .left
 
   -- there is a card byte, so the last entry ends inside the file
-  place-back : readEntries file .place + length cards ≡ length file
+  next-back : readEntries file .next + length cards ≡ length file
   unfolding badCount badBytes
-  place-back =
+  next-back =
       let s : 1 ≤ slots racks = omega (arith, slots-caps caps, length-caps caps, eqb-false (length racks) 0 (or-off-l _ (ok .count))) in
       let y : 1 ≤ b = omega (arith, eqb-false b 0 (or-off-l _ (ok .bytes))) in
-      omega (arith, ok .long, mul-le-mul-right b s, length-drop (readEntries file .place) file, ap length (entries-taken .left))
+      omega (arith, ok .long, mul-le-mul-right b s, length-drop (readEntries file .next) file, ap length (entries-taken .left))
 
   -- so the file is read back
   back : ReadBack caps b places cards
@@ -190,7 +190,7 @@ module _ (caps : List ℕ) (b : ℕ) (places cards : List ℕ) (ok : Passed (ofC
         bytes-are = bytes-back;
         places-are = places-back;
         cards-are = cards-back;
-        place-is = place-back;
+        next-is = next-back;
       }
 
 -- how much room its file takes at most

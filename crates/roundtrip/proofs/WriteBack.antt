@@ -31,7 +31,7 @@ module _ (file : List ℕ) (a : Accepted file) where
   -- B
   B-is : readB file .values ≡ fileBytes file ∷ []
   unfolding readB fileBytes
-  B-is = one-only (readB file .values) (numerals-length wrongB file 1 (readN file .place) [] (a .B-read) ∙ omega arith)
+  B-is = one-only (readB file .values) (numerals-length wrongB file 1 (readN file .next) [] (a .B-read) ∙ omega arith)
 
   -- the m_p
   caps-are : each capOf (fileRacks file) ≡ readM file .values
@@ -57,19 +57,19 @@ module _ (file : List ℕ) (a : Accepted file) where
     N-form = numerals-form wrongN file bytes 1 0 (a .N-read)
 
     -- B
-    B-form : Stands file (readN file .place) (readB file)
+    B-form : Stands file (readN file .next) (readB file)
     unfolding readB
-    B-form = numerals-form wrongB file bytes 1 (readN file .place) (a .B-read)
+    B-form = numerals-form wrongB file bytes 1 (readN file .next) (a .B-read)
 
     -- the m_p
-    M-form : Stands file (readB file .place) (readM file)
+    M-form : Stands file (readB file .next) (readM file)
     unfolding readM
-    M-form = numerals-form wrongM file bytes (getD (readN file .values) 0 0) (readB file .place) (a .M-read)
+    M-form = numerals-form wrongM file bytes (getD (readN file .values) 0 0) (readB file .next) (a .M-read)
 
     -- the entries
-    entries-form : Stands file (readM file .place) (readEntries file)
+    entries-form : Stands file (readM file .next) (readEntries file)
     unfolding readEntries
-    entries-form = numerals-form (wrongEntry (fileRacks file)) file bytes (slots (fileRacks file)) (readM file .place) (a .entries-read)
+    entries-form = numerals-form (wrongEntry (fileRacks file)) file bytes (slots (fileRacks file)) (readM file .next) (a .entries-read)
 
 -- a file of bytes that is read is the file of the job that it gives
 pub write-back : (file : List ℕ) → Bytes file → first (fileChecks file) ≡ 0 → fileFor (fileRacks file) (fileBytes file) (filePlaces file) (fileCards file) ≡ file

@@ -146,7 +146,7 @@ pub extern "C" fn seineflute_whole_run(
     flat::parts::numbers_of(answer)
 }
 
-// Job file. A struct with a reference has no form in C, so the caller takes the card bytes from their place on.
+// Job file. A struct with a reference has no form in C, so the caller takes the card bytes from their start on.
 #[no_mangle]
 pub extern "C" fn seineflute_read_file(
     file: &[u8],

@@ -12,15 +12,15 @@ use Rattle.racks.specs.Racks.{Rack, slots, isUser}
 
 -- where the mark of slot g's entry x stands, of S slots: a free slot has one of its own past all of them; what names no slot has the one
 -- behind the last
-unfoldable pub placeOf : ℕ → ℕ → ℕ → ℕ
-placeOf S g x = pick (eqb x FREE) (SLOTS + 1 + g) (pick (ltb S x) S x)
+unfoldable pub markAt : ℕ → ℕ → ℕ → ℕ
+markAt S g x = pick (eqb x FREE) (SLOTS + 1 + g) (pick (ltb S x) S x)
 
 -- an open mark, 1, is that of a user slot
 pub record OnceMarked (racks : List Rack) (marks : List ℕ) : Type 0 where
   pub users : (v : ℕ) → v ≤ slots racks → getD marks v 0 ≡ 1 → isUser racks v ≡ true
   pub long : length marks ≡ MARKS
 
--- the mark at a place is shut; whether it was open
+-- the mark at a position is shut; whether it was open
 pub record MarkTaken (marks : List ℕ) (at : ℕ) (fits : Bool) (after : List ℕ) : Type 0 where
   pub fits-is : fits ≡ eqb (getD marks at 0) 1
   pub marks-are : after ≡ set marks at 0

@@ -1,4 +1,4 @@
--- `jobfile::next` meets its contract: a walk of its MIR, by hand. The lent reader is opened, `step_at` is called with its file and its place, the place is stored, and the reader is closed.
+-- `jobfile::next` meets its contract: a walk of its MIR, by hand. The lent reader is opened, `step_at` is called with its file and its position, the position is stored, and the reader is closed.
 -- The reader holds only a `&`, so what it owns is had twice: one copy goes to the callee in part, the other stays. Assumes nothing.
 use mathlib.Core.Path.{_≡_, refl, ap}
 use Prim.Native.Nat.{ℕ, _<_, _^_}
@@ -92,7 +92,7 @@ module _ {M : Type 1} (𝓤 : URA M) (H : Heap 𝓤) (A : Atoms 𝓤) (W : Given
   abbrev h : Reader
   h = record { file = f; at = pos }
 
-  -- the reader at another place
+  -- the reader at another position
   abbrev h′ : ℕ → Reader
   h′ k = record { file = f; at = k }
 
@@ -159,7 +159,7 @@ module _ {M : Type 1} (𝓤 : URA M) (H : Heap 𝓤) (A : Atoms 𝓤) (W : Given
   numeral-is : (r : Step) (u : Val) → Is N.the-row r (u ∷ []) → Is E.the-row (r .numeral) (low r ∷ [])
   numeral-is r u is = LL.owed N.the-type N′.the-laws r _ is .0
 
-  -- the file is kept, and the place's facts are made anew
+  -- the file is kept, and the position's facts are made anew
   again : (k : ℕ) → k < 2 ^ 64 → ent 𝓤 (sem 𝓤 H A Own) (sem 𝓤 H A (B κ′ .own (h′ k) (mach k ∷ [])))
   again k ok = qed W (‵ Own ∷ []) ∵ owned ! usize (Is usize) (uint-makes 𝓤 H A W w64) k _ (refl, ok) $ move ! (1 ∷ 0 ∷ []) $ by ! (own-put 𝓤 H A W D L 1 vd k (mach pos))
 
@@ -193,7 +193,7 @@ module _ {M : Type 1} (𝓤 : URA M) (H : Heap 𝓤) (A : Atoms 𝓤) (W : Given
         rewrite ! 11 (λ (w : Val). ‵ (fat fullShare numTy l₂ 0 w)) (ap only (LL.tells N.the-type N′.the-laws r (u ∷ []) is)) refl $
         assigns ! (of-opd ! (load ! (from ! (fld ! refl (stop !))) (look-in ! 11 (sub ! 1 refl (whole !))))) (from ! (hop ! (look ! 13 refl) (fld ! refl (stop !)))) (store-in ! 2 (sub ! 1 refl (whole !)) (tt, record { fits = at-fits r u is })) $
         assigns ! (of-opd ! (load ! (from ! (fld ! refl (stop !))) (look-in ! 11 (sub ! 0 refl (whole !))))) (from ! (stop !)) (init ! 15 refl (EL.lawful E.the-type E′.the-laws 𝓤 H A W tt .typed (r .numeral) _ (numeral-is r u is) .0)) $
-        -- the reader is put together at its new place, and the borrow is closed
+        -- the reader is put together at its new position, and the borrow is closed
         move ! (1 ∷ []) $ use1 W (‵ (B κ′ .own (h′ (r .at)) (mach (r .at) ∷ []))) (again (r .at) (at-fits r u is)) $ move ! (2 ∷ []) $
         use1 W (‵ (cellAt fullShare (B κ′ .mir) (mach (r .at) ∷ []) b o)) (W .laws .at-raw fullShare (T′.mir erased) b o (mach (r .at))) $
         move ! (0 ∷ 1 ∷ 3 ∷ 4 ∷ 5 ∷ []) $ closes ! tt (B κ′) (h′ (r .at)) (mach (r .at) ∷ []) b o $

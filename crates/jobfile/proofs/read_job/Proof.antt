@@ -156,7 +156,7 @@ module _ {M : Type 1} (𝓤 : URA M) (H : Heap 𝓤) (A : Atoms 𝓤) (W : Given
   abbrev low : FileAnswer → Val
   low h = LL.val F.the-type F′.the-laws h
 
-  -- the calls at the part of the file from the reader's place on: what each is passed, what it asks, and what is known of its result
+  -- the calls at the part of the file from the reader's position on: what each is passed, what it asks, and what is known of its result
   module _ (s : RefT (List ℕ)) where
     abbrev sv : Val
     sv = sliceVal (s .ptr) (length (s .now))
@@ -190,7 +190,7 @@ module _ {M : Type 1} (𝓤 : URA M) (H : Heap 𝓤) (A : Atoms 𝓤) (W : Given
   answer-is h u is = LL.owed F.the-type F′.the-laws h _ is .0
 
   abbrev Fits : FileAnswer → Type 0
-  Fits h = (h .racks < 2 ^ 64) × ((h .bytes < 2 ^ 64) × ((h .slots < 2 ^ 64) × (h .place < 2 ^ 64)))
+  Fits h = (h .racks < 2 ^ 64) × ((h .bytes < 2 ^ 64) × ((h .slots < 2 ^ 64) × (h .start < 2 ^ 64)))
 
   fits-of : (h : FileAnswer) (u : Val) → Is F.the-row h (u ∷ []) → Fits h
   fits-of h u is = let fields = LL.owed F.the-type F′.the-laws h _ is in (fields .1 .0 .1, (fields .1 .1 .0 .1, (fields .1 .1 .1 .0 .1, fields .1 .1 .1 .1 .0 .1)))
@@ -203,9 +203,9 @@ module _ {M : Type 1} (𝓤 : URA M) (H : Heap 𝓤) (A : Atoms 𝓤) (W : Given
       says ! (job-read d (now s) (z .c .now) (z .p .now) h r xs ys e₀ e e′) $
       frame ! $ nothing ! $ move ! (3 ∷ 0 ∷ []) $ fjoin ! $ move ! (2 ∷ 0 ∷ []) $ fjoin ! $ move ! (1 ∷ 0 ∷ []) $ fjoin ! $ frame ! $
       -- [what the part owns]: what the fields own together is what the struct owns
-      nothing ! $ move ! (1 ∷ 0 ∷ []) $ fjoin ! $ owned ! usize (Is usize) (uint-makes 𝓤 H A W w64) (h .place) _ (refl, f .1 .1 .1) $ fjoin ! $ owned ! usize (Is usize) (uint-makes 𝓤 H A W w64) (h .slots) _ (refl, f .1 .1 .0) $ fjoin ! $ owned ! usize (Is usize) (uint-makes 𝓤 H A W w64) (h .bytes) _ (refl, f .1 .0) $ fjoin ! $
+      nothing ! $ move ! (1 ∷ 0 ∷ []) $ fjoin ! $ owned ! usize (Is usize) (uint-makes 𝓤 H A W w64) (h .start) _ (refl, f .1 .1 .1) $ fjoin ! $ owned ! usize (Is usize) (uint-makes 𝓤 H A W w64) (h .slots) _ (refl, f .1 .1 .0) $ fjoin ! $ owned ! usize (Is usize) (uint-makes 𝓤 H A W w64) (h .bytes) _ (refl, f .1 .0) $ fjoin ! $
       owned ! usize (Is usize) (uint-makes 𝓤 H A W w64) (h .racks) _ (refl, f .0) $ fjoin ! $ owned ! An.the-row (Is An.the-row) (LL.makes An.the-type An′.the-plain 𝓤 H A) (h .answer) _ an $ fjoin ! $
-      by ! (own-shut 𝓤 H A W (J.the-type α) (J′.the-laws α) (h .answer, (h .racks, (h .bytes, (h .slots, (h .place, (r, tt)))))))
+      by ! (own-shut 𝓤 H A W (J.the-type α) (J′.the-laws α) (h .answer, (h .racks, (h .bytes, (h .slots, (h .start, (r, tt)))))))
 
   module _ (C : Calls 𝓤 H) (Λ : Loops 𝓤 H) (fm : FmC 𝓤 H (W .laws) C) (known-rests : Triple 𝓤 (C #jobfile·rest-of) (Rests 𝓤 H A mem run)) (known-reads : Triple 𝓤 (C #jobfile·read-file) (Reads 𝓤 H A mem run)) (known-part : Triple 𝓤 (C #jobfile·card-bytes) (Part 𝓤 H A mem run)) where
     walk : Holds (hasTy (T′.mir (named 0)) mach) × WT mach → Room u16 (length (z .c .now)) → Room u16 (length (z .p .now)) → ent 𝓤 (onEntry 𝓤 H A read-job.signature (lfts z) (shares z) (beside z d) (valsBeside z mach)) (WpFn 𝓤 H C Λ code.function (mach ∷ cv z ∷ pv z ∷ []) Post)

@@ -121,10 +121,10 @@ module _ {M : Type 1} (𝓤 : URA M) (H : Heap 𝓤) (A : Atoms 𝓤) (W : Given
   low j = J′.lowered j
 
   abbrev vj : JobFile → Values (D .parts)
-  vj j = (j .answer, (j .racks, (j .bytes, (j .slots, (j .place, (j .cards, tt))))))
+  vj j = (j .answer, (j .racks, (j .bytes, (j .slots, (j .start, (j .cards, tt))))))
 
   abbrev passed : JobFile → Vals says.signature (z .κ, tt)
-  passed j = (LL.val An.the-type An′.the-laws (j .answer) ∷ [], (vint w64 (j .racks) ∷ [], (vint w64 (j .bytes) ∷ [], (vint w64 (j .slots) ∷ [], (vint w64 (j .place) ∷ [], (sliceVal (j .cards .ptr) (length (j .cards .now)) ∷ [], tt))))))
+  passed j = (LL.val An.the-type An′.the-laws (j .answer) ∷ [], (vint w64 (j .racks) ∷ [], (vint w64 (j .bytes) ∷ [], (vint w64 (j .slots) ∷ [], (vint w64 (j .start) ∷ [], (sliceVal (j .cards .ptr) (length (j .cards .now)) ∷ [], tt))))))
 
   abbrev to-says : JobFile → Says 𝓤 H A mem run .Ghost
   to-says j = (((z .κ, tt), (z .q, tt), tt, vj j, passed j), tt)
@@ -136,7 +136,7 @@ module _ {M : Type 1} (𝓤 : URA M) (H : Heap 𝓤) (A : Atoms 𝓤) (W : Given
 
   -- what is known of an answer's fields
   abbrev Fits : JobFile → Type 0
-  Fits j = (j .racks < 2 ^ 64) × ((j .bytes < 2 ^ 64) × ((j .slots < 2 ^ 64) × ((j .place < 2 ^ 64) × (length (j .cards .now) < 2 ^ 64))))
+  Fits j = (j .racks < 2 ^ 64) × ((j .bytes < 2 ^ 64) × ((j .slots < 2 ^ 64) × ((j .start < 2 ^ 64) × (length (j .cards .now) < 2 ^ 64))))
 
   fits-of : (j : JobFile) (u : Val) → Is (J.the-row α) j (u ∷ []) → Fits j
   fits-of j u is = let fields = LL.owed D L j _ is in (fields .1 .0 .1, (fields .1 .1 .0 .1, (fields .1 .1 .1 .0 .1, (fields .1 .1 .1 .1 .0 .1, fields .1 .1 .1 .1 .1 .0 .0 .1 .0))))

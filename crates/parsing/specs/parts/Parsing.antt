@@ -24,7 +24,7 @@ roomFor total = pick (ltb (TOTAL - total) USERS) (TOTAL - total) USERS
 
 -- the numerals that an answer and the list that they were put in are
 unfoldable pub takenOf : Taken → List ℕ → Numerals
-takenOf taken values = record { number = taken .number; values = pick (done (taken .number)) values []; place = taken .place }
+takenOf taken values = record { number = taken .number; values = pick (done (taken .number)) values []; next = taken .next }
 
 -- the m_p at the front of the list, in order
 pub record CapsRead (file : List ℕ) (at n : ℕ) (taken : Taken) (caps : List ℕ) : Type 0 where
@@ -34,19 +34,19 @@ pub record CapsRead (file : List ℕ) (at n : ℕ) (taken : Taken) (caps : List 
 
 -- a front that is refused
 abbrev pub noHead : ℕ → Head
-noHead n = record { number = n; racks = 0; bytes = 0; place = 0 }
+noHead n = record { number = n; racks = 0; bytes = 0; next = 0 }
 
 -- 1, 2, 3, 14 or 15 for N, B and the m_p
 unfoldable pub headChecks : List ℕ → List Check
 headChecks file = refusal (readN file .number) ∷ refusal (readB file .number) ∷ refusal (readM file .number) ∷ []
 
--- a front that is done: N, B, the place behind, and the m_p at the front of the list, in order
+-- a front that is done: N, B, the position behind, and the m_p at the front of the list, in order
 pub record Headed (file : List ℕ) (head : Head) (caps : List ℕ) : Type 0 where
   pub racks-are : head .racks ≡ length (fileRacks file)
   pub few : head .racks ≤ RACKS
   pub bytes-are : head .bytes ≡ fileBytes file
   pub small : head .bytes ≤ BYTES
-  pub place-is : head .place ≡ readM file .place
+  pub next-is : head .next ≡ readM file .next
   pub caps-are : take (head .racks) caps ≡ readM file .values
   pub good : first (rackChecks (fileRacks file)) ≡ 0
 
@@ -56,7 +56,7 @@ pub record HeadRead (file : List ℕ) (head : Head) (caps : List ℕ) : Type 0 w
   pub headed : head .number ≡ 0 → Headed file head caps
   pub long : length caps ≡ RACKS
 
--- the S entries of racks, from a place on
+-- the S entries of racks, from a position on
 unfoldable pub entries : List Rack → List ℕ → ℕ → Numerals
 entries racks file at = numerals (wrongEntry racks) (slots racks) file at []
 
@@ -67,17 +67,17 @@ entriesChecks read = refusal (read .number) ∷ (badTwice (each entryOf (read .v
 -- what reading the entries gives: where it is done, the places at the front of the list
 pub record EntriesRead (racks : List Rack) (file : List ℕ) (at : ℕ) (taken : Taken) (places : List ℕ) : Type 0 where
   pub number-is : taken .number ≡ first (entriesChecks (entries racks file at))
-  pub place-is : taken .number ≡ 0 → taken .place ≡ entries racks file at .place
+  pub next-is : taken .number ≡ 0 → taken .next ≡ entries racks file at .next
   pub places-are : taken .number ≡ 0 → take (slots racks) places ≡ each entryOf (entries racks file at .values)
   pub long : length places ≡ SLOTS
 
--- how many bytes lie behind a place
+-- how many bytes lie behind a position
 unfoldable pub leftOf : List ℕ → ℕ → ℕ
-leftOf file place = length (drop place file)
+leftOf file at = length (drop at file)
 
 -- 15 or 16 for the card bytes
 unfoldable pub endNumber : List ℕ → ℕ → ℕ → ℕ
-endNumber file place want = first ((ltb (leftOf file place) want, 15) ∷ (ltb want (leftOf file place), 16) ∷ [])
+endNumber file at want = first ((ltb (leftOf file at) want, 15) ∷ (ltb want (leftOf file at), 16) ∷ [])
 
 -- what the whole file gives, 17 aside: the answer, and where it is done the lists
 pub record Parsed (file : List ℕ) (found : FileAnswer) (caps places : List ℕ) : Type 0 where

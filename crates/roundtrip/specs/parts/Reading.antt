@@ -30,4 +30,4 @@ module _ (caps : List ℕ) (b : ℕ) (places cards : List ℕ) where
     -- the card bytes
     pub cards-are : fileCards jobsFile ≡ cards
     -- which begin behind the last entry and end the file
-    pub place-is : readEntries jobsFile .place + length cards ≡ length jobsFile
+    pub next-is : readEntries jobsFile .next + length cards ≡ length jobsFile

@@ -6,8 +6,8 @@ use lib.ListN.{getD}
 use Rattle.racks.specs.Job.{racksOf}
 use Rattle.racks.proofs.Jobs.{slots-few, sound-slots}
 use Rattle.racks.proofs.Table.{read-dest}
-use Rattle.entries.specs.parts.Once.{placeOf}
-use Rattle.entries.proofs.Once.{Once, once-none, once-more, once-all, place-in}
+use Rattle.entries.specs.parts.Once.{markAt}
+use Rattle.entries.proofs.Once.{Once, once-none, once-more, once-all, mark-at-in}
 use Rattle.entries.proofs.parts.marked_once.Statement.{statement}
 use Rattle.entries.proofs.parts.marked_once.Tie as tie
 
@@ -20,14 +20,14 @@ abbrev μ-loop : tie.MeasureT-loop
 loop-holds : tie.Need-loop-holds Inv-loop μ-loop
 loop-holds c = let s = c .before in (omega arith, once-none _ _ _ (s .pre .2))
 
-mul-place-of : tie.Need-mul-place-of Inv-loop μ-loop
-mul-place-of c = search needs
+mul-mark-at : tie.Need-mul-mark-at Inv-loop μ-loop
+mul-mark-at c = search needs
 
-shared-slice-read-place-of : tie.Need-shared-slice-read-place-of Inv-loop μ-loop
-shared-slice-read-place-of c = search needs
+shared-slice-read-mark-at : tie.Need-shared-slice-read-mark-at Inv-loop μ-loop
+shared-slice-read-mark-at c = search needs
 
-place-of-requires : tie.Need-place-of-requires Inv-loop μ-loop
-place-of-requires c κs =
+mark-at-requires : tie.Need-mark-at-requires Inv-loop μ-loop
+mark-at-requires c κs =
     let s = c .before .before .before .before .before in
     let f = slots-few _ (s .pre .0) in
     (f, omega arith)
@@ -37,7 +37,7 @@ take-mark-requires c κs =
     let l = c .before .before .before .before .before in
     let s = l .before .before in
     let f = slots-few _ (s .pre .0) in
-    (rw (c .before .place-of .ensures) (place-in _ _ _ f (omega arith)), l .loop .inv .1 .long)
+    (rw (c .before .mark-at .ensures) (mark-at-in _ _ _ f (omega arith)), l .loop .inv .1 .long)
 
 both-requires : tie.Need-both-requires Inv-loop μ-loop
 both-requires c κs = search needs
@@ -52,11 +52,11 @@ loop-again : tie.Need-loop-again Inv-loop μ-loop
 loop-again c =
     let l = c .before .before .before .before .before .before .before in
     let s = l .before .before in
-    let at = c .before .before .before .place-of in (
+    let at = c .before .before .before .mark-at in (
       omega arith,
       rw (c .both .ensures)
           (once-more (racksOf (s .args .job)) (s .pre .0 .small) (s .args .places .now) (l .loop .marks) (l .loop .all) (l .loop .g) (l .loop .inv .1) _
-          (at .ensures ∙ ap (λ (n : ℕ). placeOf n (l .loop .g) (getD (s .args .places .now) (l .loop .g) 0)) (sound-slots _ (s .pre .0)) ∙ ap (placeOf _ _) (read-dest (s .args .places .now) (l .loop .g) (omega arith))) _ _ (c .before .take-mark .ensures)),
+          (at .ensures ∙ ap (λ (n : ℕ). markAt n (l .loop .g) (getD (s .args .places .now) (l .loop .g) 0)) (sound-slots _ (s .pre .0)) ∙ ap (markAt _ _) (read-dest (s .args .places .now) (l .loop .g) (omega arith))) _ _ (c .before .take-mark .ensures)),
     )
 
 returns : tie.Need-returns Inv-loop μ-loop
@@ -72,9 +72,9 @@ marked-once-spec =
     Inv-loop
     μ-loop
     loop-holds
-    mul-place-of
-    shared-slice-read-place-of
-    place-of-requires
+    mul-mark-at
+    shared-slice-read-mark-at
+    mark-at-requires
     take-mark-requires
     both-requires
     add-g

@@ -5,7 +5,7 @@ use borrow.Author.Needs.{needs}
 use Rattle.counting.specs.Checks.{first}
 use Rattle.parsing.specs.File.{readEntries, fileChecks}
 use Rattle.parsing.specs.parts.Parsing.{headChecks, Headed, entriesChecks}
-use Rattle.parsing.proofs.Files.{file-head, file-entries, file-end, job-sound, want-small, want-is, taken-number, taken-place, parsed-refused, parsed-done}
+use Rattle.parsing.proofs.Files.{file-head, file-entries, file-end, job-sound, want-small, want-is, taken-number, taken-next, parsed-refused, parsed-done}
 use Rattle.parsing.proofs.parts.parse.Statement.{statement}
 use Rattle.parsing.proofs.parts.parse.Tie as tie
 
@@ -30,7 +30,7 @@ ended c =
     let t = e .before .before .read-table in
     let j = e .before .before .before .before .job-of-first in
     c .end-number .ensures
-    ∙ file-end (h .before .before .before .before .before .args .file .now) (none-head h) _ _ (none-entries e) (taken-place _ _ _ (headed h) _ (j .ensures) _ _ (t .ensures) (e .if2 .left)) (want-is _ _ _ (headed h) _ (j .ensures))
+    ∙ file-end (h .before .before .before .before .before .args .file .now) (none-head h) _ _ (none-entries e) (taken-next _ _ _ (headed h) _ (j .ensures) _ _ (t .ensures) (e .if2 .left)) (want-is _ _ _ (headed h) _ (j .ensures))
 
 read-head-requires : tie.Need-read-head-requires
 read-head-requires c κs = search needs

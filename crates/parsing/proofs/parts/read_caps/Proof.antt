@@ -12,28 +12,28 @@ use Rattle.parsing.proofs.parts.read_caps.Statement.{statement}
 use Rattle.parsing.proofs.parts.read_caps.Tie as tie
 
 abbrev Inv-loop : tie.InvT-loop
-Inv-loop file at n caps₀ place₀ total₀ p₀ caps place total p = Capping file at n p place total caps
+Inv-loop file at n caps₀ next₀ total₀ p₀ caps next total p = Capping file at n p next total caps
 
 abbrev μ-loop : tie.MeasureT-loop
-μ-loop file at n caps₀ place₀ total₀ p₀ caps place total p = n - p
+μ-loop file at n caps₀ next₀ total₀ p₀ caps next total p = n - p
 
 -- the numeral read, with its limit
 limit : (c : tie.After-bounded-numeral Inv-loop μ-loop)
-    → gotOf (c .bounded-numeral .result) ≡ ranged 0 (roomFor (c .before .before .before .loop .total)) 3 (c .before .before .before .before .before .args .file .now) (c .before .before .before .loop .place)
+    → gotOf (c .bounded-numeral .result) ≡ ranged 0 (roomFor (c .before .before .before .loop .total)) 3 (c .before .before .before .before .before .args .file .now) (c .before .before .before .loop .next)
 limit c =
     let l = c .before .before .before in
-    c .bounded-numeral .ensures ∙ ap (λ h. ranged 0 h 3 (l .before .before .args .file .now) (l .loop .place)) (c .before .room-for .ensures)
+    c .bounded-numeral .ensures ∙ ap (λ h. ranged 0 h 3 (l .before .before .args .file .now) (l .loop .next)) (c .before .room-for .ensures)
 
 -- the capacity read
 capacity : (c : tie.After-known-told Inv-loop μ-loop)
-    → got (c .before .got .given .0 .0) (c .before .got .given .0 .1 .0) ≡ ranged 0 (roomFor (c .before .before .before .before .before .before .loop .total)) 3 (c .before .before .before .before .before .before .before .before .args .file .now) (c .before .before .before .before .before .before .loop .place)
+    → got (c .before .got .given .0 .0) (c .before .got .given .0 .1 .0) ≡ ranged 0 (roomFor (c .before .before .before .before .before .before .loop .total)) 3 (c .before .before .before .before .before .before .before .before .args .file .now) (c .before .before .before .before .before .before .loop .next)
 capacity c = value-got _ _ _ _ (c .before .got .given .1) (limit (c .before .before .before))
 
 small : (c : tie.After-known-told Inv-loop μ-loop) → (c .before .got .given .0 .0 ≤ 1023) × (c .before .before .before .before .before .before .loop .total + c .before .got .given .0 .0 ≤ 4032)
 small c =
     let l = c .before .before .before .before .before .before in
     let s = l .before .before in
-    cap-small (s .args .file .now) (s .args .at) (s .args .n) (l .loop .caps) (l .loop .p) (l .loop .place) (l .loop .total) (l .loop .inv) (omega arith) _ _ (capacity c)
+    cap-small (s .args .file .now) (s .args .at) (s .args .n) (l .loop .caps) (l .loop .p) (l .loop .next) (l .loop .total) (l .loop .inv) (omega arith) _ _ (capacity c)
 
 loop-holds : tie.Need-loop-holds Inv-loop μ-loop
 loop-holds c = capping-none _ _ _ _ (c .before .pre .1)
@@ -57,7 +57,7 @@ returns : tie.Need-returns Inv-loop μ-loop
 returns c =
     let l = c .before .before .before .before .before .before in
     let s = l .before .before in
-    capping-stop (s .args .file .now) (s .args .at) (s .args .n) (l .loop .caps) (l .loop .p) (l .loop .place) (l .loop .total) (l .loop .inv) (omega arith) _
+    capping-stop (s .args .file .now) (s .args .at) (s .args .n) (l .loop .caps) (l .loop .p) (l .loop .next) (l .loop .total) (l .loop .inv) (omega arith) _
     (refused-got _ _ _ _ (c .before .enum-told .given .1) (c .refused-with .ensures) (limit (c .before .before .before)))
 
 cast-caps : tie.Need-cast-caps Inv-loop μ-loop
@@ -82,13 +82,13 @@ loop-again : tie.Need-loop-again Inv-loop μ-loop
 loop-again c =
     let l = c .before .before .before .before .before .before in
     let s = l .before .before in
-    capping-more (s .args .file .now) (s .args .at) (s .args .n) (l .loop .caps) (l .loop .p) (l .loop .place) (l .loop .total) (l .loop .inv) (omega arith) _ _ (capacity c) (s .pre .0)
+    capping-more (s .args .file .now) (s .args .at) (s .args .n) (l .loop .caps) (l .loop .p) (l .loop .next) (l .loop .total) (l .loop .inv) (omega arith) _ _ (capacity c) (s .pre .0)
 
 returns-2 : tie.Need-returns-2 Inv-loop μ-loop
 returns-2 c =
     let l = c .before in
     let s = l .before .before in
-    capping-done (s .args .file .now) (s .args .at) (s .args .n) (l .loop .caps) (l .loop .p) (l .loop .place) (l .loop .total) (l .loop .inv) (omega arith)
+    capping-done (s .args .file .now) (s .args .at) (s .args .n) (l .loop .caps) (l .loop .p) (l .loop .next) (l .loop .total) (l .loop .inv) (omega arith)
 
 pub read-caps-spec : {M : Type 1} → statement M
 read-caps-spec =

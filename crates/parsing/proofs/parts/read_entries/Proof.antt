@@ -13,17 +13,17 @@ use Rattle.parsing.proofs.parts.read_entries.Statement.{statement}
 use Rattle.parsing.proofs.parts.read_entries.Tie as tie
 
 abbrev Inv-loop : tie.InvT-loop
-Inv-loop job file at marks₀ places₀ place₀ worst₀ g₀ marks places place worst g = Entering (racksOf job) file at g place places marks worst
+Inv-loop job file at marks₀ places₀ next₀ worst₀ g₀ marks places next worst g = Entering (racksOf job) file at g next places marks worst
 
 abbrev μ-loop : tie.MeasureT-loop
-μ-loop job file at marks₀ places₀ place₀ worst₀ g₀ marks places place worst g = job .slots - g
+μ-loop job file at marks₀ places₀ next₀ worst₀ g₀ marks places next worst g = job .slots - g
 
 -- there is an entry to read
 below : (c : tie.Then1 Inv-loop μ-loop) → c .before .before .loop .g < slots (racksOf (c .before .before .before .before .args .job))
 below c = omega (arith, sound-slots _ (c .before .before .before .before .pre .0))
 
 -- the entry that is read
-entry : (c : tie.After-known-told Inv-loop μ-loop) → got (c .before .got .given .0 .0) (c .before .got .given .0 .1 .0) ≡ ranged 0 4096 5 (c .before .before .before .before .before .before .before .before .args .file .now) (c .before .before .before .before .before .before .loop .place)
+entry : (c : tie.After-known-told Inv-loop μ-loop) → got (c .before .got .given .0 .0) (c .before .got .given .0 .1 .0) ≡ ranged 0 4096 5 (c .before .before .before .before .before .before .before .before .args .file .now) (c .before .before .before .before .before .before .loop .next)
 entry c = value-got _ _ _ _ (c .before .got .given .1) (c .before .before .before .bounded-numeral .ensures)
 
 loop-holds : tie.Need-loop-holds Inv-loop μ-loop
@@ -45,13 +45,13 @@ returns : tie.Need-returns Inv-loop μ-loop
 returns c =
     let l = c .before .before .before .before .before .before in
     let s = l .before .before in
-    entering-stop (racksOf (s .args .job)) (s .args .file .now) (s .args .at) (l .loop .places) (l .loop .marks) (l .loop .g) (l .loop .place) (l .loop .worst) (l .loop .inv) (s .pre .0 .small) (below (c .before .before .before .before)) _ (refused-got _ _ _ _ (c .before .enum-told .given .1) (c .refused-with .ensures) (c .before .before .before .bounded-numeral .ensures))
+    entering-stop (racksOf (s .args .job)) (s .args .file .now) (s .args .at) (l .loop .places) (l .loop .marks) (l .loop .g) (l .loop .next) (l .loop .worst) (l .loop .inv) (s .pre .0 .small) (below (c .before .before .before .before)) _ (refused-got _ _ _ _ (c .before .enum-told .given .1) (c .refused-with .ensures) (c .before .before .before .bounded-numeral .ensures))
 
 entry-of-requires : tie.Need-entry-of-requires Inv-loop μ-loop
 entry-of-requires c κs =
     let l = c .before .before .before .before .before .before in
     let s = l .before .before in
-    entry-small (racksOf (s .args .job)) (s .args .file .now) (s .args .at) (l .loop .places) (l .loop .marks) (l .loop .g) (l .loop .place) (l .loop .worst) (l .loop .inv) (s .pre .0 .small) (below (c .before .before .before .before)) _ _ (entry c)
+    entry-small (racksOf (s .args .job)) (s .args .file .now) (s .args .at) (l .loop .places) (l .loop .marks) (l .loop .g) (l .loop .next) (l .loop .worst) (l .loop .inv) (s .pre .0 .small) (below (c .before .before .before .before)) _ _ (entry c)
 
 entry-number-requires : tie.Need-entry-number-requires Inv-loop μ-loop
 entry-number-requires c κs = c .before .before .before .before .before .before .before .before .loop .inv .passed .long
@@ -60,7 +60,7 @@ returns-2 : tie.Need-returns-2 Inv-loop μ-loop
 returns-2 c =
     let l = c .before .before .before .before .before .before .before .before .before .before in
     let s = l .before .before in
-    entering-5 (racksOf (s .args .job)) (s .args .file .now) (s .args .at) (l .loop .places) (l .loop .marks) (l .loop .g) (l .loop .place) (l .loop .worst) (l .loop .inv) (s .pre .0 .small) (below (c .before .before .before .before .before .before .before .before)) _ _ (entry (c .before .before .before .before)) _ _ _ (c .before .before .before .entry-of .ensures) (c .before .entry-number .ensures) (c .if2 .taken)
+    entering-5 (racksOf (s .args .job)) (s .args .file .now) (s .args .at) (l .loop .places) (l .loop .marks) (l .loop .g) (l .loop .next) (l .loop .worst) (l .loop .inv) (s .pre .0 .small) (below (c .before .before .before .before .before .before .before .before)) _ _ (entry (c .before .before .before .before)) _ _ _ (c .before .before .before .entry-of .ensures) (c .before .entry-number .ensures) (c .if2 .taken)
 
 mul-places : tie.Need-mul-places Inv-loop μ-loop
 mul-places c = omega (arith, below (c .before .before .before .before .before .before .before .before), c .before .before .before .before .before .before .before .before .before .before .before .before .pre .0 .small)
@@ -82,13 +82,13 @@ loop-again c =
     let l = c .before .before .before .before .before .before .before .before .before .before .before in
     let s = l .before .before in
     rw (c .worse-of .ensures)
-    (entering-more (racksOf (s .args .job)) (s .args .file .now) (s .args .at) (l .loop .places) (l .loop .marks) (l .loop .g) (l .loop .place) (l .loop .worst) (l .loop .inv) (s .pre .0 .small) (below (c .before .before .before .before .before .before .before .before .before)) _ _ (entry (c .before .before .before .before .before)) _ _ _ (c .before .before .before .before .entry-of .ensures) (c .before .before .entry-number .ensures) (c .before .if2 .left))
+    (entering-more (racksOf (s .args .job)) (s .args .file .now) (s .args .at) (l .loop .places) (l .loop .marks) (l .loop .g) (l .loop .next) (l .loop .worst) (l .loop .inv) (s .pre .0 .small) (below (c .before .before .before .before .before .before .before .before .before)) _ _ (entry (c .before .before .before .before .before)) _ _ _ (c .before .before .before .before .entry-of .ensures) (c .before .before .entry-number .ensures) (c .before .if2 .left))
 
 returns-3 : tie.Need-returns-3 Inv-loop μ-loop
 returns-3 c =
     let l = c .before .before in
     let s = l .before .before in
-    entering-done (racksOf (s .args .job)) (s .args .file .now) (s .args .at) (l .loop .places) (l .loop .marks) (l .loop .g) (l .loop .place) (l .loop .worst) (l .loop .inv) (omega (arith, sound-slots _ (s .pre .0)))
+    entering-done (racksOf (s .args .job)) (s .args .file .now) (s .args .at) (l .loop .places) (l .loop .marks) (l .loop .g) (l .loop .next) (l .loop .worst) (l .loop .inv) (omega (arith, sound-slots _ (s .pre .0)))
 
 pub read-entries-spec : {M : Type 1} → statement M
 read-entries-spec =
