@@ -43,8 +43,10 @@ module _ (ask : List ℕ → ℕ → List Row) (bad : List ℕ → ℕ → ℕ) 
   numbered-numerals zero at before = tt
   numbered-numerals (suc n) at before =
       let x = numeral file at in
+      let rows = numeralRows ask n file (x .next) (before ++ x .value ∷ []) in
       let rest = numbered-numerals n (x .next) (before ++ x .value ∷ []) in
-      ((λ e. omega arith), ((λ e. omega arith), numbered-both _ (ask before (x .value)) (says before (x .value) .numbered) rest))
+      numbered-both (ask before (x .value) ++ rows) (formRows file at) (given-form file at .numbered)
+      (numbered-both rows (ask before (x .value)) (says before (x .value) .numbered) rest)
 
   -- one numeral more
   step : (n at : ℕ) (before : List ℕ) → numerals bad (suc n) file at before .number

@@ -13,24 +13,31 @@ use Rattle.counting.specs.Count.{sum}
 use Rattle.counting.specs.Checks.{first}
 use Rattle.counting.proofs.Select.{sum-zero, sum-suc}
 use Rattle.numerals.specs.Numeral.{Got, refused, groups, numeral, lastGroup}
-use Rattle.numerals.proofs.Groups.{last-some, last-14, last-only, group-15, group-last, group-more, group-14}
+use Rattle.numerals.proofs.Groups.{last-some, last-14, last-only, group-15, group-last, group-more, group-20}
 use Rattle.demands.specs.Rows.{Given}
 use Rattle.demands.specs.FileConditions.{Follows, Padded, TooLong, CutShort, EndsWith, sevenBits, valueOf, formRows}
 use Rattle.demands.proofs.Rows.{given-none, given-row}
 use Rattle.demands.proofs.Says.{says-eq}
 
--- two checks by a number that is 0, 14 or 15 give that number
-two-is : (n : ℕ) → (n ≡ 0) ⊎ ((n ≡ 14) ⊎ (n ≡ 15)) → first ((eqb n 14, 14) ∷ (eqb n 15, 15) ∷ []) ≡ n
-unfolding first
-two-is n (inl e) = rw e
-two-is n (inr (inl e)) = rw e
-two-is n (inr (inr e)) = rw e
+-- the number of a numeral's form: read, padded, too long or cut short
+abbrev OneOf : ℕ → Type 0
+OneOf n = (n ≡ 0) ⊎ ((n ≡ 14) ⊎ ((n ≡ 20) ⊎ (n ≡ 15)))
 
-module _ (n : ℕ) {A B : Type 0} (a : (n ≡ 14) ↔ A) (b : (n ≡ 15) ↔ B) where
-  -- and so it is given by two rows
-  given-two : (n ≡ 0) ⊎ ((n ≡ 14) ⊎ (n ≡ 15)) → Given n ((14, A) ∷ (15, B) ∷ [])
-  given-two one = subst (λ (k : ℕ). Given k ((14, A) ∷ (15, B) ∷ [])) (two-is n one)
-      (given-row _ (λ e. omega arith) (Iff·trans (says-eq n 14) a) (given-row _ (λ e. omega arith) (Iff·trans (says-eq n 15) b) given-none))
+-- three checks by such a number give that number
+three-is : (n : ℕ) → OneOf n → first ((eqb n 14, 14) ∷ (eqb n 20, 20) ∷ (eqb n 15, 15) ∷ []) ≡ n
+unfolding first
+three-is n (inl e) = rw e
+three-is n (inr (inl e)) = rw e
+three-is n (inr (inr (inl e))) = rw e
+three-is n (inr (inr (inr e))) = rw e
+
+module _ (n : ℕ) {A B C : Type 0} (a : (n ≡ 14) ↔ A) (b : (n ≡ 20) ↔ B) (c : (n ≡ 15) ↔ C) where
+  -- and so it is given by three rows
+  given-three : OneOf n → Given n ((14, A) ∷ (20, B) ∷ (15, C) ∷ [])
+  given-three one = subst (λ (k : ℕ). Given k ((14, A) ∷ (20, B) ∷ (15, C) ∷ [])) (three-is n one)
+      (given-row _ (λ e. omega arith) (Iff·trans (says-eq n 14) a)
+      (given-row _ (λ e. omega arith) (Iff·trans (says-eq n 20) b)
+      (given-row _ (λ e. omega arith) (Iff·trans (says-eq n 15) c) given-none)))
 
 -- a power of 128 is 1 only where the exponent is 0
 no-power : (i : ℕ) → i ≢ 0 → 128 ^ i ≢ 1
@@ -50,7 +57,8 @@ module _ (file : List ℕ) (at : ℕ) where
 
   -- how a numeral ends, and what is then read
   pub data Form (got : Got) : Type 0 where
-    misshapen : Padded file at ⊎ TooLong file at → got ≡ refused 14 → Form got
+    padded : Padded file at → got ≡ refused 14 → Form got
+    long : TooLong file at → got ≡ refused 20 → Form got
     cut : CutShort file at → got ≡ refused 15 → Form got
     good : (i : ℕ) → EndsWith file at i → got ≡ readTo i → Form got
 
@@ -80,7 +88,7 @@ module _ (file : List ℕ) (at : ℕ) where
         | no n ↦ fine (inr n) (last-some value weight x (at + i + 1) n)
         | yes z ↦ elim (ℕ-discrete i 0) [
           | yes o ↦ fine (inl o) (rw (z, zero-mul weight, add-zero value) (last-only value weight 0 (at + i + 1) refl (w ∙ ap (λ (n : ℕ). 128 ^ n) o)))
-          | no o ↦ misshapen (inl (i, omega arith, k, f, l, z)) (sym (last-14 value weight x (at + i + 1) z (λ q. no-power i o (sym w ∙ q))))
+          | no o ↦ padded (i, omega arith, k, f, l, z) (sym (last-14 value weight x (at + i + 1) z (λ q. no-power i o (sym w ∙ q))))
         ]
       ]
 
@@ -89,7 +97,7 @@ module _ (file : List ℕ) (at : ℕ) where
       → Form (groups left file (at + i) value weight)
   form-from zero i value weight e f v w =
       let q : i ≡ 3 = omega arith in
-      misshapen (inr (rw q at f)) (group-14 file 0 (at + i) value weight refl)
+      long (rw q at f) (group-20 file 0 (at + i) value weight refl)
   form-from (suc left) i value weight e f v w =
       let x : ℕ = getD file (at + i) 0 in
       elim (decLe (length file) (at + i)) [
@@ -134,16 +142,23 @@ module _ (file : List ℕ) (at : ℕ) where
   stop-padded : (c : Padded file at) → Stop (c .0)
   stop-padded (i, o, k, f, l, z) = (k, f, λ m h. omega arith)
 
-  -- so it ends in one of three ways
-  misshapen-cut : Padded file at ⊎ TooLong file at → CutShort file at → ⊥
-  misshapen-cut (inl p) c = let q = stop-same (p .0) (c .0) (stop-padded p) (stop-cut c) in omega (arith, p .4, c .3, q)
-  misshapen-cut (inr f) c = stop-long (c .0) (stop-cut c) f
+  -- so it ends in one of four ways
+  padded-long : Padded file at → TooLong file at → ⊥
+  padded-long p f = stop-long (p .0) (stop-padded p) f
 
-  misshapen-good : Padded file at ⊎ TooLong file at → (i : ℕ) → EndsWith file at i → ⊥
-  misshapen-good (inl (j, o, k, f, l, z)) i w =
+  padded-cut : Padded file at → CutShort file at → ⊥
+  padded-cut p c = let q = stop-same (p .0) (c .0) (stop-padded p) (stop-cut c) in omega (arith, p .4, c .3, q)
+
+  padded-good : Padded file at → (i : ℕ) → EndsWith file at i → ⊥
+  padded-good (j, o, k, f, l, z) i w =
       let q : j ≡ i = stop-same j i (stop-padded (j, o, k, f, l, z)) (stop-good i w) in
       elim (w .4) [ inl e ↦ omega arith | inr n ↦ n (rw q at z) ]
-  misshapen-good (inr f) i w = stop-long i (stop-good i w) f
+
+  long-cut : TooLong file at → CutShort file at → ⊥
+  long-cut f c = stop-long (c .0) (stop-cut c) f
+
+  long-good : TooLong file at → (i : ℕ) → EndsWith file at i → ⊥
+  long-good f i w = stop-long i (stop-good i w) f
 
   cut-good : CutShort file at → (i : ℕ) → EndsWith file at i → ⊥
   cut-good c i w = let q = stop-same (c .0) i (stop-cut c) (stop-good i w) in omega (arith, c .3, w .2, q)
@@ -151,7 +166,8 @@ module _ (file : List ℕ) (at : ℕ) where
   -- a numeral that ends well is read
   pub numeral-good : (i : ℕ) → EndsWith file at i → numeral file at ≡ readTo i
   numeral-good i w = elim form [
-    | misshapen p e ↦ absurd (misshapen-good p i w)
+    | padded p e ↦ absurd (padded-good p i w)
+    | long f e ↦ absurd (long-good f i w)
     | cut c e ↦ absurd (cut-good c i w)
     | good j u e ↦ e ∙ ap readTo (stop-same j i (stop-good j u) (stop-good i w))
   ]
@@ -159,18 +175,21 @@ module _ (file : List ℕ) (at : ℕ) where
   -- and one that is read ends well
   pub numeral-ends : numeral file at .number ≡ 0 → (i : ℕ) × EndsWith file at i
   numeral-ends z = elim form [
-    | misshapen p e ↦ absurd (omega (arith, ap (λ (g : Got). g .number) e))
+    | padded p e ↦ absurd (omega (arith, ap (λ (g : Got). g .number) e))
+    | long f e ↦ absurd (omega (arith, ap (λ (g : Got). g .number) e))
     | cut c e ↦ absurd (omega (arith, ap (λ (g : Got). g .number) e))
     | good i w e ↦ (i, w)
   ]
 
-  -- 14, 15 or neither
+  -- 14, 20, 15 or none of them
   pub given-form : Given (numeral file at .number) (formRows file at)
   given-form = elim form [
-    | misshapen p e ↦ let z = ap (λ (g : Got). g .number) e in
-        given-two _ (λ _. p, λ _. z) (λ q. absurd (omega arith), λ c. absurd (misshapen-cut p c)) (inr (inl z))
+    | padded p e ↦ let z = ap (λ (g : Got). g .number) e in
+        given-three _ (λ _. p, λ _. z) (λ q. absurd (omega arith), λ f. absurd (padded-long p f)) (λ q. absurd (omega arith), λ c. absurd (padded-cut p c)) (inr (inl z))
+    | long f e ↦ let z = ap (λ (g : Got). g .number) e in
+        given-three _ (λ q. absurd (omega arith), λ p. absurd (padded-long p f)) (λ _. f, λ _. z) (λ q. absurd (omega arith), λ c. absurd (long-cut f c)) (inr (inr (inl z)))
     | cut c e ↦ let z = ap (λ (g : Got). g .number) e in
-        given-two _ (λ q. absurd (omega arith), λ p. absurd (misshapen-cut p c)) (λ _. c, λ _. z) (inr (inr z))
+        given-three _ (λ q. absurd (omega arith), λ p. absurd (padded-cut p c)) (λ q. absurd (omega arith), λ f. absurd (long-cut f c)) (λ _. c, λ _. z) (inr (inr (inr z)))
     | good i w e ↦ let z = ap (λ (g : Got). g .number) e in
-        given-two _ (λ q. absurd (omega arith), λ p. absurd (misshapen-good p i w)) (λ q. absurd (omega arith), λ c. absurd (cut-good c i w)) (inl z)
+        given-three _ (λ q. absurd (omega arith), λ p. absurd (padded-good p i w)) (λ q. absurd (omega arith), λ f. absurd (long-good f i w)) (λ q. absurd (omega arith), λ c. absurd (cut-good c i w)) (inl z)
   ]

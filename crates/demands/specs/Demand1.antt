@@ -63,7 +63,7 @@ pub record Demand1 : Type 0 where
   pub from-start : (reader : Reader) → reader .at ≡ 0 → ahead reader ≡ now (reader .file)
   pub behind-end : (reader : Reader) (caps places : List ℕ) → length (now (reader .file)) ≤ reader .at → read (ahead reader) caps places .answer .number ≡ 15
   pub list-job : (file lent : List ℕ) → Given (printed file lent .answer .number) ((13, TooShort lent (listing file)) ∷ [])
-  -- one numeral of a file: 14, 15, or its value by its groups and the position behind the last
+  -- one numeral of a file: 14, 20, 15, or its value by its groups and the position behind the last
   pub form : (file : List ℕ) (at : ℕ) → Given (numeral file at .number) (formRows file at)
   pub ends : (file : List ℕ) (at : ℕ) → numeral file at .number ≡ 0 → (i : ℕ) × EndsWith file at i
   pub value : (file : List ℕ) (at i : ℕ) → EndsWith file at i → numeral file at ≡ record { number = 0; value = valueOf file at i; next = at + i + 1 }

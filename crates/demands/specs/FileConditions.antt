@@ -15,15 +15,15 @@ use Rattle.demands.specs.Conditions.{UserSlot, WrongN, WrongB, TooMany, 
 abbrev pub Follows : List ℕ → ℕ → ℕ → Type 0
 Follows file at i = (j : ℕ) → j < i → (at + j < length file) × (128 ≤ getD file (at + j) 0)
 
--- not in its shortest form: the last of several groups is 0
+-- 14: padded beyond its shortest form: the last of several groups is 0
 abbrev pub Padded : List ℕ → ℕ → Type 0
 Padded file at = (i : ℕ) × (0 < i) × (i < 3) × Follows file at i × (at + i < length file) × (getD file (at + i) 0 ≡ 0)
 
--- of more than three groups: a fourth follows
+-- 20: of more than three groups: a fourth follows, there or not
 abbrev pub TooLong : List ℕ → ℕ → Type 0
 TooLong file at = Follows file at 3
 
--- the file ends too early: a group follows that is not there
+-- 15: the file ends too early: a group follows that is not there
 abbrev pub CutShort : List ℕ → ℕ → Type 0
 CutShort file at = (i : ℕ) × (i < 3) × Follows file at i × (length file ≤ at + i)
 
@@ -45,7 +45,7 @@ WrongFileEntry racks x = (x ≢ 0) × (¬ UserSlot racks (x - 1))
 
 -- the rows of the numeral at a position: its form
 abbrev pub formRows : List ℕ → ℕ → List Row
-formRows file at = (14, Padded file at ⊎ TooLong file at) ∷ (15, CutShort file at) ∷ []
+formRows file at = (14, Padded file at) ∷ (20, TooLong file at) ∷ (15, CutShort file at) ∷ []
 
 -- what is asked of a value, when those before it are known: 1 of N, 2 of B, 3 of m_p and the running total, 5 of an entry
 abbrev pub askN : List ℕ → ℕ → List Row

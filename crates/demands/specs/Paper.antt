@@ -129,7 +129,7 @@ pub record Paper : Type 0 where
   pub eight-16384 : reads (0x80 ∷ 0x80 ∷ 0x01 ∷ []) 16384 3
   pub eight-padded : refusesNumeral (0x80 ∷ 0x00 ∷ []) 14
   pub eight-cut : refusesNumeral (0x80 ∷ []) 15
-  pub eight-long : refusesNumeral (0x80 ∷ 0x80 ∷ 0x80 ∷ []) 14
+  pub eight-long : refusesNumeral (0x80 ∷ 0x80 ∷ 0x80 ∷ []) 20
 
 pub paper : Paper
 unfolding _and_ _or_ sum count some select seek tabulate join each pairUp flat matching among last first ofCaps rackAt users width total base slots endsBy rackOf spareOf isUser free settled rackTo onRack away aways awayTo bound owes freeOn names badCount badBytes tooLarge badSize badPlaces badCards badEntry badEntries repeats badTwice noSlot sourceFree sourceHome elsewhere targetTaken someAway tooShort tableChecks placesChecks rackChecks cardChecks checked other sources lowest granted openSlots room arrivals planFor plan block putBlock blank movedPlaces movedCards carriedPlaces carriedCards endChecks moveChecks moved phasesFrom phases budget budgeted source following onward back onCycle head factor factorsFrom factors shift cycle copies copyList taken laid copyMade runCopies brought isNamed lastEntry lastCard settledHeld gathered hasPairs counts groups lastGroup numeral numerals wrongN wrongB wrongM wrongEntry entryOf readN readB readM fileRacks readEntries fileBytes filePlaces fileCards fileChecks digit digits decimal hex slotText arrow phaseLine phaseLines copiesLine cardText cardsLine endLine refusedLine programChecks fileHeld runText listing

@@ -53,9 +53,9 @@ module _ (file : List ℕ) (left at value weight : ℕ) (some : 0 < left) where
       ap (λ n. groups n file at value weight) one-less ∙ rw (lt-leb (length file) at h, le-leb 128 (getD file at 0) l, add-one at)
 
 -- a group too many
-pub group-14 : (file : List ℕ) (left at value weight : ℕ) → left ≡ 0 → groups left file at value weight ≡ refused 14
+pub group-20 : (file : List ℕ) (left at value weight : ℕ) → left ≡ 0 → groups left file at value weight ≡ refused 20
 unfolding groups
-group-14 file left at value weight e = rw e
+group-20 file left at value weight e = rw e
 
 -- how large a numeral can be with `left` groups to come
 pub record Weighed (left value weight : ℕ) : Type 0 where

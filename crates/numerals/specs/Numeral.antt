@@ -23,9 +23,9 @@ unfoldable pub lastGroup : ℕ → ℕ → ℕ → ℕ → Got
 lastGroup value weight x next =
     pick (eqb x 0 and not (eqb weight 1)) (refused 14) (record { number = 0; value = value + x * weight; next = next })
 
--- at most `more` further groups, lowest first: 15 where the file ends; the top bit says that another follows; 14 for a group too many
+-- at most `more` further groups, lowest first: 15 where the file ends; the top bit says that another follows; 20 for a group too many, there or not
 unfoldable pub groups : ℕ → List ℕ → ℕ → ℕ → ℕ → Got
-groups zero file at value weight = refused 14
+groups zero file at value weight = refused 20
 groups (suc more) file at value weight =
     let x = getD file at 0 in
     pick (leb (length file) at) (refused 15)

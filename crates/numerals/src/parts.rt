@@ -5,7 +5,8 @@ ghost use Rattle.numerals.specs.Numeral.{numeral, lastGroup, gotOf};
 ghost use Rattle.numerals.specs.parts.Bounds.{ranged};
 use crate::Numeral;
 
-// The numeral at a position of the file: groups of seven bits, lowest first, at most three.
+// The numeral at a position of the file: groups of seven bits, lowest first, at most three. 20 at once where the third has its top bit
+// set, whatever follows it.
 pub fn next_numeral(file: &[u8], at: usize) -> Numeral
     ensures { λ r. ⌜ gotOf r ≡ numeral (now (file .entry)) at ⌝ }
 {
@@ -26,7 +27,7 @@ pub fn next_numeral(file: &[u8], at: usize) -> Numeral
         next = next + 1;
         left = left - 1;
     }
-    Numeral::Refused(14)
+    Numeral::Refused(20)
 }
 
 // The last group of a numeral: 14 where it is 0 and not the only one.

@@ -72,6 +72,13 @@ fn case_8() {
     behind(b"80 01 and 80 80 01: ", b"\x80\x01\x80\x80\x01");
 }
 
+// Beside case 8: padded in the third group is 14; a third group with its top bit set is 20 at once, whatever follows it.
+fn third_groups() {
+    behind(b"80 80 00: ", b"\x80\x80\x00");
+    behind(b"80 80 80 00: ", b"\x80\x80\x80\x00");
+    behind(b"80 80 80 01: ", b"\x80\x80\x80\x01");
+}
+
 // Case 1 from the start of its file, behind two numerals, and with its first two numerals read.
 fn case_1() {
     start(
@@ -106,6 +113,7 @@ fn refusals() {
 
 fn main() {
     case_8();
+    third_groups();
     case_1();
     refusals();
 }

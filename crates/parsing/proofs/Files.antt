@@ -137,7 +137,7 @@ module _ (file : List ℕ) (head : Head) (caps : List ℕ) (h : Headed file head
     unfolding entries readEntries
     entries-are = rw (job-racks, h .next-is)
 
-    -- 14, 15, 5 or 6
+    -- 14, 15, 20, 5 or 6
     pub taken-number : taken .number ≡ first (entriesChecks (readEntries file))
     taken-number = rw (← entries-are) (r .number-is)
 

@@ -120,7 +120,7 @@ fn entry_of(x: usize) -> u16
     (x - 1) as u16
 }
 
-// The S entries, to the front of a list of the reader's own: 14, 15 or 5 at once, 6 after the last.
+// The S entries, to the front of a list of the reader's own: 14, 15, 20 or 5 at once, 6 after the last.
 fn read_entries(
     job: Job,
     file: &[u8],

@@ -11,7 +11,7 @@ use lib.Seq.{drop-cons}
 use borrow.Author.Tests.{le-leb, lt-leb}
 use Rattle.counting.specs.Lists.{each, join}
 use Rattle.numerals.specs.Numeral.{Got, lastGroup, groups, numeral, Numerals, numerals}
-use Rattle.numerals.proofs.Groups.{last-14, group-15, group-last, group-14}
+use Rattle.numerals.proofs.Groups.{last-14, group-15, group-last, group-20}
 use Rattle.parsing.proofs.Legal.{one-more}
 use Rattle.jobwriter.specs.Writing.{groupsOf, numeralOf}
 use Rattle.roundtrip.specs.RoundTrip.{Bytes}
@@ -76,7 +76,7 @@ module _ (file : List ℕ) (n at value weight : ℕ) (l : at < length file) wher
 
 -- groups that are read
 formed : (n : ℕ) (file : List ℕ) → Bytes file → (at value weight : ℕ) → groups n file at value weight .number ≡ 0 → Formed n file at value weight (groups n file at value weight)
-formed zero file bytes at value weight z = absurd (omega (arith, ap (λ (g : Got). g .number) (group-14 file 0 at value weight refl)))
+formed zero file bytes at value weight z = absurd (omega (arith, ap (λ (g : Got). g .number) (group-20 file 0 at value weight refl)))
 formed (suc n) file bytes at value weight z = elim (decLe (length file) at) [
   | yes l ↦ absurd (omega (arith, ap (λ (g : Got). g .number) (group-15 file (suc n) at value weight (omega arith) l)))
   | no l ↦ elim (decLe 128 (getD file at 0)) [

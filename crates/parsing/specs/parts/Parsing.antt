@@ -36,7 +36,7 @@ pub record CapsRead (file : List ℕ) (at n : ℕ) (taken : Taken) (caps : List 
 abbrev pub noHead : ℕ → Head
 noHead n = record { number = n; racks = 0; bytes = 0; next = 0 }
 
--- 1, 2, 3, 14 or 15 for N, B and the m_p
+-- 1, 2, 3, 14, 15 or 20 for N, B and the m_p
 unfoldable pub headChecks : List ℕ → List Check
 headChecks file = refusal (readN file .number) ∷ refusal (readB file .number) ∷ refusal (readM file .number) ∷ []
 
@@ -60,7 +60,7 @@ pub record HeadRead (file : List ℕ) (head : Head) (caps : List ℕ) : Type 0 w
 unfoldable pub entries : List Rack → List ℕ → ℕ → Numerals
 entries racks file at = numerals (wrongEntry racks) (slots racks) file at []
 
--- 14, 15 or 5 for the entries, then 6
+-- 14, 15, 20 or 5 for the entries, then 6
 unfoldable pub entriesChecks : Numerals → List Check
 entriesChecks read = refusal (read .number) ∷ (badTwice (each entryOf (read .values)), 6) ∷ []
 

@@ -6,7 +6,7 @@ use lib.ListN.{getD}
 use borrow.Author.Needs.{needs}
 use Rattle.numerals.specs.Numeral.{groups, numeral}
 use Rattle.numerals.specs.Numeral.{gotOf}
-use Rattle.numerals.proofs.Groups.{Weighed, weighed-none, weighed-more, product-small, group-15, group-last, group-more, group-14}
+use Rattle.numerals.proofs.Groups.{Weighed, weighed-none, weighed-more, product-small, group-15, group-last, group-more, group-20}
 use Rattle.numerals.proofs.parts.next_numeral.Statement.{statement}
 use Rattle.numerals.proofs.parts.next_numeral.Tie as tie
 
@@ -72,7 +72,7 @@ returns-3 : tie.Need-returns-3 Inv-loop μ-loop
 unfolding gotOf
 returns-3 c =
     let l = c .before in
-    sym (group-14 (l .before .before .args .file .now) (l .loop .left) (l .loop .next) (l .loop .value) (l .loop .weight) (omega arith)) ∙ l .loop .inv .1
+    sym (group-20 (l .before .before .args .file .now) (l .loop .left) (l .loop .next) (l .loop .value) (l .loop .weight) (omega arith)) ∙ l .loop .inv .1
 
 pub next-numeral-spec : {M : Type 1} → statement M
 next-numeral-spec =
