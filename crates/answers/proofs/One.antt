@@ -4,8 +4,9 @@ use mathlib.Core.List.{List}
 use Prim.Native.Nat.{ℕ}
 use Rattle.counting.specs.One.{One}
 use Rattle.counting.proofs.One.{one-is, one-by}
-use Rattle.answers.specs.Answers.{Listed, listedOf, Sized, sizedOf, TallyNone, TallyOfMoves, TallyOfCopies, AnswerOf, AnswerDone}
+use Rattle.answers.specs.Answers.{Listed, listedOf, Sized, sizedOf, TallyNone, TallyOfMoves, TallyOfCopies, RefusalOf, AnswerRefused, AnswerOf, AnswerDone}
 use Rattle.answers.specs.declared.Tally.{Tally}
+use Rattle.answers.specs.declared.Refusal.{Refusal}
 use Rattle.answers.specs.declared.Answer.{Answer}
 use Rattle.answers.specs.declared.SizeAnswer.{SizeAnswer}
 
@@ -26,6 +27,12 @@ tally-of-moves-one moves = one-is _
 
 pub tally-of-copies-one : (copies : ℕ) → One (TallyOfCopies copies)
 tally-of-copies-one copies = one-is _
+
+pub refusal-of-one : (n : ℕ) → One (RefusalOf n)
+refusal-of-one n = one-is _
+
+pub answer-refused-one : (refusal : Refusal) → One (AnswerRefused refusal)
+answer-refused-one refusal = one-is _
 
 pub answer-of-one : (n : ℕ) → One (AnswerOf n)
 answer-of-one n = one-is _

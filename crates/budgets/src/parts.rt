@@ -151,9 +151,9 @@ pub fn budget_job(job: Job, b: usize, places: &mut [u16], cards: &mut [u8], k: u
     ensures { λ r. ⌜ outcomeOf r (now (places .exit)) (now (cards .exit)) ≡ budgetedBy job b (held (now (places .entry)) (now (cards .entry))) k ⌝ }
 {
     let mut racking = [0u8; Job::MAX_SLOTS];
-    let number = tables::parts::cards_number(job, b, places, cards, &mut racking);
-    if number != 0 {
-        return Answer::of(number);
+    let refusal = tables::parts::cards_refusal(job, b, places, cards, &mut racking);
+    if refusal.number != 0 {
+        return Answer::refused(refusal);
     }
     let tally = move_cards(job, b, k, places, cards, &racking);
     Answer::done(tally)

@@ -1,5 +1,5 @@
 -- Each case of the copy list's call. Assumes nothing.
-use mathlib.Core.Path.{_≡_, sym, ap, _∙_}
+use mathlib.Core.Path.{_≡_, refl, sym, ap, _∙_}
 use mathlib.Core.Bool.{true, false, not}
 use mathlib.Core.List.{List, [], _∷_}
 use Prim.Native.Nat.{ℕ, _*_, _≤_, _<_}
@@ -10,9 +10,10 @@ use borrow.Author.Tests.{lt-ltb, le-ltb, ltb-false}
 use Rattle.counting.proofs.Tests.{not-on, not-off-is}
 use Rattle.counting.specs.Lists.{flat}
 use Rattle.counting.specs.Checks.{first}
-use Rattle.counting.proofs.Checks.{first-here, first-later, first-none, refusal-here, refusal-past}
+use Rattle.counting.proofs.Checks.{first-here, first-later, first-none, known-past}
 use Rattle.counting.proofs.Stores.{length-flat}
-use Rattle.answers.specs.Answers.{copiesOf, answer, noCounts, listed, listedOf}
+use Rattle.answers.specs.Answers.{placeless, copiesOf, answer, noCounts, listed, listedOf}
+use Rattle.answers.specs.declared.Refusal.{Refusal}
 use Rattle.answers.specs.declared.Answer.{Answer}
 use Rattle.answers.specs.declared.Tally.{Tally}
 use Rattle.answers.proofs.Answers.{listed-refused, listed-done}
@@ -20,7 +21,9 @@ use Rattle.racks.specs.Racks.{Rack, ofCaps}
 use Rattle.racks.specs.Numbers.{someAway, tooShort}
 use Rattle.racks.specs.Job.{racksOf, jobOf}
 use Rattle.racks.specs.declared.Job.{Job}
-use Rattle.tables.specs.parts.Tables.{tableNumber}
+use Rattle.racks.proofs.Places.{placeless-alone}
+use Rattle.tables.specs.parts.Tables.{refusalBy, tableNumber}
+use Rattle.tables.proofs.Refusals.{placeless-by}
 use Rattle.tables.proofs.Tables.{listed-by}
 use Rattle.factors.specs.Copies.{copyList, copyChecks, copied}
 use Rattle.copies.specs.parts.Writes.{putCopies, AllWritten, fits, listedHere, copyNumber, copiedBy}
@@ -45,11 +48,11 @@ module _ (places : List ℕ) (room count : ℕ) (size : count ≡ length (copyLi
 -- the table is accepted and nothing is away
 module _ (places lent : List ℕ) where
   -- the lent list is too short
-  pub here-short : fits (length lent) places ≡ false → (a : Answer) → a ≡ answer 13 noCounts → listedOf a lent ≡ listedHere places lent
+  pub here-short : fits (length lent) places ≡ false → (a : Answer) → a ≡ answer (placeless 13) noCounts → listedOf a lent ≡ listedHere places lent
   unfolding listedHere fits tooShort
   here-short e a ea =
-      listed-refused (first ((tooShort lent (flat (copyList places)), 13) ∷ [])) (copiesOf (length (copyList places))) (flat (copyList places)) lent 13 a ea
-      (sym (first-here _ 13 [] (rw (length-flat (copyList places)) (not-off-is e)))) (λ z. omega arith)
+      listed-refused (placeless (first ((tooShort lent (flat (copyList places)), 13) ∷ []))) (copiesOf (length (copyList places))) (flat (copyList places)) lent (placeless 13) a ea
+      (ap placeless (sym (first-here _ 13 [] (rw (length-flat (copyList places)) (not-off-is e))))) (λ z. omega arith)
 
   -- it has room
   pub fits-room : fits (length lent) places ≡ true → 2 * length (copyList places) ≤ length lent
@@ -57,30 +60,27 @@ module _ (places lent : List ℕ) where
   fits-room e = ltb-false (length lent) (2 * length (copyList places)) (not-on e)
 
   -- the list is written, and the tally has its copies
-  pub here-done : fits (length lent) places ≡ true → (a : Answer) (none t : Tally) (seen after marks : List ℕ) → a ≡ answer 0 t → none ≡ noCounts → AllWritten places lent seen none t after marks → listedOf a after ≡ listedHere places lent
+  pub here-done : fits (length lent) places ≡ true → (a : Answer) (none t : Tally) (seen after marks : List ℕ) → a ≡ answer (placeless 0) t → none ≡ noCounts → AllWritten places lent seen none t after marks → listedOf a after ≡ listedHere places lent
   unfolding listedHere fits tooShort putCopies
   here-done e a none t seen after marks ea en w =
-      listed-done (first ((tooShort lent (flat (copyList places)), 13) ∷ [])) (copiesOf (length (copyList places))) (flat (copyList places)) lent a t after ea (w .count-is ∙ rw (en, zero-add)) (w .list-is)
-      (first-later _ 13 [] (rw (length-flat (copyList places)) (not-on e)) ∙ first-none)
+      listed-done (placeless (first ((tooShort lent (flat (copyList places)), 13) ∷ []))) (copiesOf (length (copyList places))) (flat (copyList places)) lent a t after ea (w .count-is ∙ rw (en, zero-add)) (w .list-is)
+      (ap placeless (sym (first-later _ 13 [] (rw (length-flat (copyList places)) (not-on e)) ∙ first-none)))
 
--- the number of the call, by a job
+-- the refusal of the call, by a job
 module _ (job : Job) (places lent : List ℕ) where
-  -- refused by the table
-  pub copied-table : (n : ℕ) → n ≡ tableNumber job places → (n ≡ 0 → ⊥) → n ≡ copyNumber job places lent
-  unfolding copyNumber
-  copied-table n e f = e ∙ sym (refusal-here (tableNumber job places) _ (λ z. f (e ∙ z)))
-
   module _ (z : tableNumber job places ≡ 0) where
     -- a card is away
-    pub copied-away : someAway (racksOf job) places ≡ true → 12 ≡ copyNumber job places lent
+    pub copied-away : someAway (racksOf job) places ≡ true → placeless 12 ≡ refusalBy job places (copyNumber job places lent)
     unfolding copyNumber
-    copied-away e = sym (refusal-past (tableNumber job places) _ z ∙ first-here _ 12 _ e)
+    copied-away e = placeless-by job places 12 _ (refl, refl) (sym (known-past (tableNumber job places) _ z ∙ first-here _ 12 _ e))
 
     -- nothing is away
     pub copied-home : someAway (racksOf job) places ≡ false → listedHere places lent ≡ copiedBy job places lent
     unfolding listedHere copiedBy copyNumber
     copied-home home =
-        ap (λ (n : ℕ). listed n (copiesOf (length (copyList places))) (flat (copyList places)) lent) (sym (refusal-past (tableNumber job places) _ z ∙ first-later _ 12 _ home))
+        ap (λ (x : Refusal). listed x (copiesOf (length (copyList places))) (flat (copyList places)) lent)
+        (placeless-by job places _ _ (placeless-alone _ 13 (refl, refl))
+        (sym (known-past (tableNumber job places) _ z ∙ first-later _ 12 _ home)))
 
 -- a job made from capacities gives their list
 pub copied-by : (caps : List ℕ) (job : Job) → job ≡ jobOf (ofCaps caps) → (places lent : List ℕ) → copiedBy job places lent ≡ copied (ofCaps caps) places lent

@@ -90,9 +90,9 @@ pub fn copy_job(job: Job, places: &[u16], lent: &mut [u16]) -> Answer
     ensures { λ r. ⌜ listedOf r (now (lent .exit)) ≡ copiedBy job (now (places .entry)) (now (lent .entry)) ⌝ }
 {
     let mut racking = [0u8; Job::MAX_SLOTS];
-    let number = tables::parts::table_number(job, places, &mut racking);
-    if number != 0 {
-        return Answer::of(number);
+    let refusal = tables::parts::table_refusal(job, places, &mut racking);
+    if refusal.number != 0 {
+        return Answer::refused(refusal);
     }
     if some_away(&racking, places) {
         return Answer::of(12);

@@ -4,7 +4,7 @@ use mathlib.Core.Bool.{true}
 use mathlib.Core.List.{List, [], _∷_}
 use Prim.Native.Nat.{ℕ}
 use Rattle.racks.specs.Limits.{FREE}
-use Rattle.answers.specs.Answers.{answer, noCounts, Listed}
+use Rattle.answers.specs.Answers.{placeless, answer, noCounts, Listed}
 use Rattle.moves.specs.Moves.{Held, Outcome, movedPlaces, movedCards, carriedPlaces, carriedCards}
 use Rattle.counting.specs.Tests.{_and_, _or_}
 use Rattle.counting.specs.Count.{sum, count, some, select, seek}
@@ -32,7 +32,7 @@ held10 = record { places = FREE ∷ []; cards = 0x00 ∷ [] }
 abbrev pub after1 : Outcome
 after1 =
     record {
-      answer = answer 0 (record { phases = 2; moves = 5; copies = 5 });
+      answer = answer (placeless 0) (record { phases = 2; moves = 5; copies = 5 });
       held =
           record {
             places = 0 ∷ 1 ∷ FREE ∷ 3 ∷ 4 ∷ FREE ∷ 6 ∷ FREE ∷ [];
@@ -42,15 +42,15 @@ after1 =
 
 -- case 10 after any call: nothing to do
 abbrev pub after10 : Outcome
-after10 = record { answer = answer 0 noCounts; held = held10 }
+after10 = record { answer = answer (placeless 0) noCounts; held = held10 }
 
 -- no racks
 abbrev pub refused10 : Outcome
-refused10 = record { answer = answer 1 noCounts; held = held10 }
+refused10 = record { answer = answer (placeless 1) noCounts; held = held10 }
 
 -- the plan of case 1, written into a list of six numbers
 abbrev pub planned1 : Listed
-planned1 = record { answer = answer 0 (record { phases = 0; moves = 3; copies = 0 }); lent = 3 ∷ 2 ∷ 0 ∷ 5 ∷ 4 ∷ 7 ∷ [] }
+planned1 = record { answer = answer (placeless 0) (record { phases = 0; moves = 3; copies = 0 }); lent = 3 ∷ 2 ∷ 0 ∷ 5 ∷ 4 ∷ 7 ∷ [] }
 
 -- what the calls give for them
 pub record Cases : Type 0 where

@@ -31,15 +31,15 @@ module _ (racks : List Rack) (b : ℕ) (h : Held) (z : first (cardChecks racks b
   all-take : EveryCall racks b h
   all-take =
       record {
-        check-table = demand1 .check-table racks (h .places) .done .1 no-table-row;
-        slot-question = λ g. given-behind _ _ no-table-row (demand1 .slot-question racks (h .places) g);
-        phase-plan = λ lent. given-behind _ _ no-table-row (demand1 .phase-plan racks (h .places) lent);
-        one-move = λ from to. given-behind _ _ no-card-row (demand1 .one-move racks b h from to);
-        budgeted-moves = λ k. demand1 .budgeted-moves racks b h k .done .1 no-card-row;
-        copy-list = λ lent. given-behind _ _ no-table-row (demand1 .copy-list racks (h .places) lent);
-        shuffle-cards = given-behind _ _ no-card-row (demand1 .shuffle-cards racks b h);
-        whole-run = demand1 .whole-run racks b h .done .1 no-card-row;
-        write-file = λ lent. given-behind _ _ no-card-row (demand1 .write-file racks b (h .places) (h .cards) lent);
+        check-table = demand1 .check-table racks (h .places) .number .done .1 no-table-row;
+        slot-question = λ g. given-behind _ _ no-table-row (demand1 .slot-question racks (h .places) g .number);
+        phase-plan = λ lent. given-behind _ _ no-table-row (demand1 .phase-plan racks (h .places) lent .number);
+        one-move = λ from to. given-behind _ _ no-card-row (demand1 .one-move racks b h from to .number);
+        budgeted-moves = λ k. demand1 .budgeted-moves racks b h k .number .done .1 no-card-row;
+        copy-list = λ lent. given-behind _ _ no-table-row (demand1 .copy-list racks (h .places) lent .number);
+        shuffle-cards = given-behind _ _ no-card-row (demand1 .shuffle-cards racks b h .number);
+        whole-run = demand1 .whole-run racks b h .number .done .1 no-card-row;
+        write-file = λ lent. given-behind _ _ no-card-row (demand1 .write-file racks b (h .places) (h .cards) lent .number);
       }
 
 -- a job that a reader reads is that of the file ahead of it

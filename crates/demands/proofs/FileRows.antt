@@ -8,7 +8,7 @@ use native.Mathlib.Decide.{ℕ-discrete}
 use lib.ListN.{length, getD}
 use borrow.Author.Tests.{ne-eqb}
 use Rattle.counting.specs.Tests.{pick}
-use Rattle.counting.specs.Checks.{Check, first, refusal, done}
+use Rattle.counting.specs.Checks.{Check, first, known, done}
 use Rattle.counting.proofs.Checks.{first-none}
 use Rattle.racks.specs.Racks.{Rack, ofCaps, slots}
 use Rattle.numerals.specs.Numeral.{numeral, Numerals, numerals}
@@ -16,13 +16,13 @@ use Rattle.parsing.specs.File.{wrongN, wrongB, wrongM, wrongEntry, readN, readB
 use Rattle.numerals.proofs.Numerals.{either, alone}
 use Rattle.demands.specs.Rows.{Row, Numbered, Given}
 use Rattle.demands.specs.Conditions.{TwoNameOne}
-use Rattle.demands.specs.FileConditions.{formRows, askN, askB, askM, askEntry, numeralRows, fileRows}
+use Rattle.demands.specs.FileConditions.{formRows, askN, askB, askM, askEntry, numeralRows, entryRows, fileRows}
 use Rattle.demands.proofs.Rows.{given-none, given-row, given-after, numbered-both}
 use Rattle.demands.proofs.Says.{says-eq, says-lt, says-not, says-and, says-user, says-1, says-2, says-3, says-6}
 use Rattle.demands.proofs.Forms.{given-form}
 
 -- a numeral, what it is asked, and the numerals after it
-three : (a b c : ℕ) → pick (done (either a b)) c (either a b) ≡ first (refusal a ∷ refusal b ∷ refusal c ∷ [])
+three : (a b c : ℕ) → pick (done (either a b)) c (either a b) ≡ first (known a ∷ known b ∷ known c ∷ [])
 unfolding first
 three a b c = elim (ℕ-discrete a 0) [
   | yes e ↦ elim (ℕ-discrete b 0) [
@@ -50,8 +50,8 @@ module _ (ask : List ℕ → ℕ → List Row) (bad : List ℕ → ℕ → ℕ) 
 
   -- one numeral more
   step : (n at : ℕ) (before : List ℕ) → numerals bad (suc n) file at before .number
-      ≡ first (refusal (numeral file at .number) ∷ refusal (bad before (numeral file at .value))
-      ∷ refusal (numerals bad n file (numeral file at .next) (before ++ numeral file at .value ∷ []) .number) ∷ [])
+      ≡ first (known (numeral file at .number) ∷ known (bad before (numeral file at .value))
+      ∷ known (numerals bad n file (numeral file at .next) (before ++ numeral file at .value ∷ []) .number) ∷ [])
   unfolding numerals
   step n at before =
       let x = numeral file at in
@@ -99,7 +99,7 @@ module _ (file : List ℕ) where
   rowsM = numeralRows askM (getD (readN file .values) 0 0) file (readB file .next) []
 
   abbrev rowsE : List Row
-  rowsE = numeralRows (askEntry (fileRacks file)) (slots (fileRacks file)) file (readM file .next) []
+  rowsE = entryRows file (slots (fileRacks file))
 
   -- after the last entry
   abbrev rowsC : List Row

@@ -2,6 +2,7 @@ pub mod Rows
 pub mod Says
 pub mod Forms
 pub mod FileRows
+pub mod Places
 pub mod CallRows
 pub mod Demand1
 pub mod Refusals

@@ -5,7 +5,7 @@ use Prim.Native.Nat.{ℕ}
 use Rattle.counting.specs.One.{One}
 use Rattle.counting.proofs.One.{one-is, one-by}
 use Rattle.answers.specs.declared.Answer.{Answer}
-use Rattle.answers.proofs.One.{tally-none-one, tally-of-moves-one, tally-of-copies-one, answer-of-one, answer-done-one}
+use Rattle.answers.proofs.One.{tally-none-one, tally-of-moves-one, tally-of-copies-one, refusal-of-one, answer-refused-one, answer-of-one, answer-done-one}
 use Rattle.racks.proofs.One.{job-of-one}
 use Rattle.tables.proofs.One.{check-table-one}
 use Rattle.slots.proofs.One.{slot-question-one}
@@ -27,7 +27,7 @@ use Rattle.demands.specs.OneOutcome.{OneOutcome}
 
 -- the numbers that C is given, read back from an answer
 abbrev plain : Answer → c.Answer
-plain a = record { number = a .number; phases = a .tally .phases; moves = a .tally .moves; copies = a .tally .copies }
+plain a = record { number = a .number; place = a .place; phases = a .tally .phases; moves = a .tally .moves; copies = a .tally .copies }
 
 c-same : {allowed : Answer → Type 0} → One allowed → One (λ (r : c.Answer). allowed (answerOf r))
 c-same = one-by answerOf plain (λ x. refl)
@@ -47,6 +47,7 @@ c-filed =
     (λ (y : FileAnswer × List ℕ × List ℕ). (
       record {
         number = y .0 .answer .number;
+        place = y .0 .answer .place;
         phases = y .0 .answer .tally .phases;
         moves = y .0 .answer .tally .moves;
         copies = y .0 .answer .tally .copies;
@@ -65,6 +66,7 @@ c-sized =
     (λ (y : SizeAnswer × List ℕ). (
       record {
         number = y .0 .answer .number;
+        place = y .0 .answer .place;
         phases = y .0 .answer .tally .phases;
         moves = y .0 .answer .tally .moves;
         copies = y .0 .answer .tally .copies;
@@ -97,6 +99,8 @@ one-outcome =
       tally-none = tally-none-one;
       tally-of-moves = tally-of-moves-one;
       tally-of-copies = tally-of-copies-one;
+      refusal-of = refusal-of-one;
+      answer-refused = answer-refused-one;
       answer-of = answer-of-one;
       answer-done = answer-done-one;
       c-check-table = λ caps places. c-same (check-table-one caps places);

@@ -21,7 +21,7 @@ use Rattle.counting.proofs.Members.{among-none, among-last, besides-in, besides
 use Rattle.racks.specs.Limits.{FREE}
 use Rattle.racks.specs.Racks.{Rack, slots}
 use Rattle.racks.specs.Table.{dest, free, rackTo, away, aways, awayTo, names}
-use Rattle.answers.specs.Answers.{answer, movesOf}
+use Rattle.answers.specs.Answers.{placeless, answer, movesOf}
 use Rattle.racks.specs.parts.Legal.{Legal}
 use Rattle.racks.proofs.Away.{to-away, to-is}
 use Rattle.plans.specs.Allowed.{Allowed}
@@ -86,7 +86,7 @@ module _ {racks : List Rack} {b : ℕ} {h : Held} (s : Start racks b h) where
   pub allowed-number : (m : Pair) → Allowed racks (h .places) m → first (moveChecks racks b h m) ≡ 0
   allowed-number m a = move-number s m ∙ allowed-ends racks (h .places) m a
 
-  pub allowed-moved : (m : Pair) → Allowed racks (h .places) m → moved racks b h m ≡ record { answer = answer 0 (movesOf 1); held = carried b (m ∷ []) h }
+  pub allowed-moved : (m : Pair) → Allowed racks (h .places) m → moved racks b h m ≡ record { answer = answer (placeless 0) (movesOf 1); held = carried b (m ∷ []) h }
   unfolding moved
   allowed-moved m a = rw (allowed-number m a)
 
@@ -113,7 +113,7 @@ module _ {racks : List Rack} {b : ℕ} {h : Held} {ms : List Pair} (s : Start ra
   point-suc l = ap (λ (x : List Pair). carried b x h) (take-suc ms n (0, 0) l) ∙ carried-append b (take n ms) (getD ms n (0, 0) ∷ []) h
 
   -- the single move accepts it
-  pub point-move : n < length ms → moved racks b (carried b (take n ms) h) (getD ms n (0, 0)) ≡ record { answer = answer 0 (movesOf 1); held = carried b (take (suc n) ms) h }
+  pub point-move : n < length ms → moved racks b (carried b (take n ms) h) (getD ms n (0, 0)) ≡ record { answer = answer (placeless 0) (movesOf 1); held = carried b (take (suc n) ms) h }
   point-move l = rw (point-suc l) (allowed-moved start-point (getD ms n (0, 0)) (turn-at t n l))
 
   -- the away cards after it

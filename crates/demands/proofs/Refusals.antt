@@ -14,7 +14,8 @@ use Rattle.factors.specs.Copies.{copied}
 use Rattle.shuffle.specs.Shuffle.{shuffled}
 use Rattle.runs.specs.Run.{ran}
 use Rattle.answers.specs.declared.Answer.{Answer}
-use Rattle.parsing.specs.File.{Read, read}
+use Rattle.counting.specs.Checks.{first}
+use Rattle.parsing.specs.File.{Read, refusalAt, fileRefusal, readChecks, read}
 use Rattle.numerals.specs.Numeral.{Got, numeral}
 use Rattle.numerals.specs.Numeral.{gotOf}
 use Rattle.numerals.specs.declared.Numeral.{Numeral}
@@ -26,20 +27,20 @@ use Rattle.jobfile.specs.declared.JobFile.{JobFile}
 use Rattle.jobwriter.specs.Writing.{filed}
 use Rattle.listing.specs.Listing.{handedOver, printed}
 use Rattle.jobfile.specs.Reading.{jobSeen}
-use Rattle.demands.specs.Demand1.{refusedWith, Refusals}
+use Rattle.demands.specs.Demand1.{refusedAs, Refusals}
 
 -- a file that is refused
-refused-read : (file caps places : List ℕ) (n : ℕ) → n ≢ 0 → read file caps places .answer .number ≡ n
-    → read file caps places ≡ record { answer = refusedWith n; racks = 0; bytes = 0; slots = 0; caps = caps; places = places; start = 0; cards = [] }
-unfolding read
-refused-read file caps places n f e = rw (e, ne-eqb n 0 f)
+refused-read : (file caps places : List ℕ) → read file caps places .answer .number ≢ 0
+    → read file caps places ≡ record { answer = refusedAs (read file caps places .answer); racks = 0; bytes = 0; slots = 0; caps = caps; places = places; start = 0; cards = [] }
+unfolding read fileRefusal refusalAt
+refused-read file caps places f = rw (ne-eqb (first (readChecks file caps places)) 0 f)
 
 -- and a job
-refused-job : (reader : Reader) (caps places : List ℕ) (job : JobFile) (caps′ places′ : List ℕ) (n : ℕ) → JobRead reader caps places job caps′ places′ → n ≢ 0
-    → job .answer .number ≡ n → jobSeen (job, caps′, places′) ≡ (refusedWith n, 0, 0, 0, 0, [], caps, places)
-refused-job reader caps places job caps′ places′ n r f z =
-    let e = refused-read (ahead reader) caps places n f (sym (ap (λ (a : Answer). a .number) (r .answer-is)) ∙ z) in
-    let e0 = r .answer-is ∙ ap (λ (o : Read). o .answer) e in
+refused-job : (reader : Reader) (caps places : List ℕ) (job : JobFile) (caps′ places′ : List ℕ) → JobRead reader caps places job caps′ places′ → job .answer .number ≢ 0
+    → jobSeen (job, caps′, places′) ≡ (refusedAs (job .answer), 0, 0, 0, 0, [], caps, places)
+refused-job reader caps places job caps′ places′ r f =
+    let e = refused-read (ahead reader) caps places (λ z. f (ap (λ (a : Answer). a .number) (r .answer-is) ∙ z)) in
+    let e0 = r .answer-is ∙ ap (λ (o : Read). o .answer) e ∙ ap refusedAs (sym (r .answer-is)) in
     let e1 = r .racks-are ∙ ap (λ (o : Read). o .racks) e in
     let e2 = r .bytes-are ∙ ap (λ (o : Read). o .bytes) e in
     let e3 = r .slots-are ∙ ap (λ (o : Read). o .slots) e in
@@ -70,18 +71,18 @@ pub refusals : Refusals
 unfolding checked asked planned moved budgeted copied shuffled ran filed handedOver printed
 refusals =
     record {
-      check-table = λ racks places n f e. rw (e, ne-eqb n 0 f);
-      slot-question = λ racks places g n f e. rw (e, ne-eqb n 0 f);
-      phase-plan = λ racks places lent n f e. rw (e, ne-eqb n 0 f);
-      one-move = λ racks b h from to n f e. rw (e, ne-eqb n 0 f);
-      budgeted-moves = λ racks b h k n f e. rw (e, ne-eqb n 0 f);
-      copy-list = λ racks places lent n f e. rw (e, ne-eqb n 0 f);
-      shuffle-cards = λ racks b h n f e. rw (e, ne-eqb n 0 f);
-      whole-run = λ racks b h n f e. rw (e, ne-eqb n 0 f);
+      check-table = λ racks places f. rw (ne-eqb _ 0 f);
+      slot-question = λ racks places g f. rw (ne-eqb _ 0 f);
+      phase-plan = λ racks places lent f. rw (ne-eqb _ 0 f);
+      one-move = λ racks b h from to f. rw (ne-eqb _ 0 f);
+      budgeted-moves = λ racks b h k f. rw (ne-eqb _ 0 f);
+      copy-list = λ racks places lent f. rw (ne-eqb _ 0 f);
+      shuffle-cards = λ racks b h f. rw (ne-eqb _ 0 f);
+      whole-run = λ racks b h f. rw (ne-eqb _ 0 f);
       read-file = refused-read;
-      write-file = λ racks b places cards lent n f e. rw (e, ne-eqb n 0 f);
+      write-file = λ racks b places cards lent f. rw (ne-eqb _ 0 f);
       read-job = refused-job;
       step-at = refused-step;
       next = refused-next;
-      list-job = λ file lent n f e. rw (e, ne-eqb n 0 f);
+      list-job = λ file lent f. rw (ne-eqb _ 0 f);
     }

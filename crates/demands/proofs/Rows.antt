@@ -7,7 +7,7 @@ use Prim.Native.Nat.{ℕ}
 use native.Mathlib.Decide.{ℕ-discrete}
 use lib.Dec.{eqb}
 use borrow.Author.Tests.{eq-eqb, ne-eqb}
-use Rattle.counting.specs.Checks.{Check, first, refusal}
+use Rattle.counting.specs.Checks.{Check, first, known}
 use Rattle.counting.proofs.Tests.{by-test, no-way}
 use Rattle.counting.proofs.Checks.{first-here, first-later, first-none}
 use Rattle.demands.specs.Rows.{Row, None, Holds, Numbered, Given}
@@ -114,12 +114,12 @@ given-behind rows more a g =
 
 -- a number found elsewhere, and more checks where it is 0
 pub given-after : (m : ℕ) (rows : List Row) (cs : List Check) (more : List Row)
-    → Given m rows → Numbered more → (m ≡ 0 → Given (first cs) more) → Given (first (refusal m ∷ cs)) (rows ++ more)
+    → Given m rows → Numbered more → (m ≡ 0 → Given (first cs) more) → Given (first (known m ∷ cs)) (rows ++ more)
 given-after m rows cs more g k rest = elim (ℕ-discrete m 0) [ yes z ↦ go-on z | no f ↦ stop f ]
   where
-    go-on : m ≡ 0 → Given (first (refusal m ∷ cs)) (rows ++ more)
+    go-on : m ≡ 0 → Given (first (known m ∷ cs)) (rows ++ more)
     go-on z =
-        let e : first (refusal m ∷ cs) ≡ first cs = first-later (not (eqb m 0)) m cs (rw (eq-eqb m 0 z)) in
+        let e : first (known m ∷ cs) ≡ first cs = first-later (not (eqb m 0)) m cs (rw (eq-eqb m 0 z)) in
         let none = g .done .0 z in
         record {
           refused = λ n f. (
@@ -130,9 +130,9 @@ given-after m rows cs more g k rest = elim (ℕ-discrete m 0) [ yes z ↦ go-on 
           numbered = numbered-both more rows (g .numbered) k;
         }
 
-    stop : (m ≡ 0 → ⊥) → Given (first (refusal m ∷ cs)) (rows ++ more)
+    stop : (m ≡ 0 → ⊥) → Given (first (known m ∷ cs)) (rows ++ more)
     stop s =
-        let e : first (refusal m ∷ cs) ≡ m = first-here (not (eqb m 0)) m cs (rw (ne-eqb m 0 s)) in
+        let e : first (known m ∷ cs) ≡ m = first-here (not (eqb m 0)) m cs (rw (ne-eqb m 0 s)) in
         record {
           refused = λ n f. (
             λ q. holds-left more n rows (g .refused n f .0 (sym e ∙ q)),

@@ -12,7 +12,7 @@ use Rattle.counting.proofs.Checks.{first-clear, first-past, first-here, first-l
 use Rattle.racks.specs.Racks.{Rack, slots}
 use Rattle.racks.specs.Table.{aways}
 use Rattle.racks.specs.Numbers.{someAway}
-use Rattle.answers.specs.Answers.{answer, movesOf}
+use Rattle.answers.specs.Answers.{placeless, answer, movesOf}
 use Rattle.moves.specs.Moves.{Held, carried}
 use Rattle.moves.specs.Phases.{phases, budget, budgeted}
 use Rattle.moves.proofs.Phases.{phases-in-turn, phases-end, aways-some, aways-none}
@@ -104,7 +104,7 @@ module _ {racks : List Rack} {b : ℕ} {h : Held} (s : Start racks b h) (small :
 
   -- budgeted moves make the first k of all pairs
   pub budgeted-first : (k : ℕ)
-      → budgeted racks b h k ≡ record { answer = answer 0 (movesOf (min k (aways racks (h .places)))); held = carried b (take k (join (phases racks (h .places)))) h }
+      → budgeted racks b h k ≡ record { answer = answer (placeless 0) (movesOf (min k (aways racks (h .places)))); held = carried b (take k (join (phases racks (h .places)))) h }
   unfolding budgeted budget
   budgeted-first k = rw (s .fits)
 

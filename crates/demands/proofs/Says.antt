@@ -92,7 +92,7 @@ module _ (racks : List Rack) where
     unfolding badCards
     says-4-cards b cards = says-not (says-eq (length cards) (slots racks * b))
 
-    says-entry : (g : ℕ) → (badEntry racks places g ≡ true) ↔ ((dest places g ≢ 65535) × (¬ UserSlot racks (dest places g)))
+    pub says-entry : (g : ℕ) → (badEntry racks places g ≡ true) ↔ ((dest places g ≢ 65535) × (¬ UserSlot racks (dest places g)))
     unfolding badEntry free
     says-entry g =
         let s = says-not (says-or (says-eq (dest places g) 65535) (says-user racks (dest places g))) in
@@ -100,7 +100,9 @@ module _ (racks : List Rack) where
 
     pub says-5 : (badEntries racks places ≡ true) ↔ WrongEntry racks places
     unfolding badEntries
-    says-5 = says-some (length places) (badEntry racks places) (λ g. (dest places g ≢ 65535) × (¬ UserSlot racks (dest places g))) says-entry
+    says-5 =
+        let s = says-some (length places) (badEntry racks places) (λ g. (dest places g ≢ 65535) × (¬ UserSlot racks (dest places g))) says-entry in
+        (λ t. let w = s .0 t in (w .0, (w .1, w .2)), λ w. s .1 (w .0, w .1 .0, w .1 .1))
 
     -- 9, 10
     pub says-9 : (from : ℕ) → (sourceHome racks places from ≡ true) ↔ SourceHome racks places from
@@ -119,7 +121,7 @@ module _ (racks : List Rack) where
 
 module _ (places : List ℕ) where
   -- 6
-  says-repeats : (g : ℕ) → (repeats places g ≡ true) ↔ ((dest places g ≢ 65535) × ((h : ℕ) × (h < g) × (dest places h ≡ dest places g)))
+  pub says-repeats : (g : ℕ) → (repeats places g ≡ true) ↔ ((dest places g ≢ 65535) × ((h : ℕ) × (h < g) × (dest places h ≡ dest places g)))
   unfolding repeats free names
   says-repeats g = says-and (says-not (says-eq (dest places g) 65535)) (says-some g (names places (dest places g)) (λ h. dest places h ≡ dest places g) (λ h. says-eq (dest places h) (dest places g)))
 

@@ -6,7 +6,7 @@ use Rattle.counting.specs.Tests.{pick}
 use Rattle.counting.specs.Lists.{Pair, each}
 use Rattle.counting.specs.Checks.{done}
 use Rattle.racks.specs.Racks.{Rack}
-use Rattle.answers.specs.Answers.{answer, movesOf}
+use Rattle.answers.specs.Answers.{placeless, answer, movesOf}
 use Rattle.moves.specs.Moves.{Held, Outcome, moved}
 use Rattle.moves.specs.Phases.{budget, budgeted}
 use Rattle.shuffle.specs.Shuffle.{shuffled}
@@ -53,7 +53,7 @@ singles ms = each (λ (m : Pair). single (m .0) (m .1)) ms
 -- these calls, one after another: each is accepted when its turn comes, and counts one move
 unfoldable pub AllAccepted : List Rack → ℕ → Held → List Pair → Type 0
 AllAccepted racks b h [] = Unit {0}
-AllAccepted racks b h (m ∷ ms) = (moved racks b h m .answer ≡ answer 0 (movesOf 1)) × AllAccepted racks b (moved racks b h m .held) ms
+AllAccepted racks b h (m ∷ ms) = (moved racks b h m .answer ≡ answer (placeless 0) (movesOf 1)) × AllAccepted racks b (moved racks b h m .held) ms
 
 -- any call that changes a table and its cards: single or budgeted moves, the shuffle, a whole run
 pub data CardsCall : Type 0 where

@@ -33,9 +33,13 @@ WrongPlaces racks places = length places ≢ slots racks
 abbrev pub WrongCards : List Rack → ℕ → List ℕ → Type 0
 WrongCards racks b cards = length cards ≢ slots racks * b
 
+-- entry g is bad: neither 65,535 nor a user slot
+abbrev pub WrongAt : List Rack → List ℕ → ℕ → Type 0
+WrongAt racks places g = (g < length places) × ((dest places g ≢ 65535) × (¬ UserSlot racks (dest places g)))
+
 -- 5: an entry is neither 65,535 nor a user slot
 abbrev pub WrongEntry : List Rack → List ℕ → Type 0
-WrongEntry racks places = (g : ℕ) × (g < length places) × ((dest places g ≢ 65535) × (¬ UserSlot racks (dest places g)))
+WrongEntry racks places = (g : ℕ) × WrongAt racks places g
 
 -- 6: two entries name one slot
 abbrev pub TwoNameOne : List ℕ → Type 0

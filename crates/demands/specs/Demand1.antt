@@ -1,4 +1,5 @@
 -- Demand 1: a call gives number n exactly when the rules' condition n holds and no earlier one of the call's list does, and 0 exactly when none holds;
+-- 5 comes with the lowest bad entry, 6 with the lowest entry that repeats an earlier one, every other number with the place 0;
 -- a refusal changes nothing lent and gives 0 for all else. Assumes nothing: these are statements; `demand1` in proofs/Demand1 and `refusals` in proofs/Refusals prove them.
 use mathlib.Core.Path.{_≡_}
 use mathlib.Core.Logic.{_≢_, _↔_}
@@ -35,34 +36,39 @@ use Rattle.demands.specs.Accepted.{Accepted}
 use Rattle.jobfile.specs.Reading.{jobSeen}
 use Rattle.demands.specs.Rows.{None, Holds, Given, _then_}
 use Rattle.demands.specs.Conditions.{UserSlot, NoSlot, CardAway, TooShort, tableRows, cardRows, endRows}
+use Rattle.demands.specs.Places.{Answered, FileAnswered}
 use Rattle.demands.specs.FileConditions.{EndsWith, valueOf, formRows, fileRows, NoRoom, FileTooLarge}
 
--- the number of each call
+-- the number and the place of each call
 pub record Demand1 : Type 0 where
-  pub check-table : (racks : List Rack) (places : List ℕ) → Given (checked racks places .number) (tableRows racks places)
+  pub check-table : (racks : List Rack) (places : List ℕ) → Answered racks places (tableRows racks places) (checked racks places)
   pub slot-question : (racks : List Rack) (places : List ℕ) (g : ℕ)
-      → Given (asked racks places g .answer .number) (tableRows racks places then (7, NoSlot racks g) ∷ [])
+      → Answered racks places (tableRows racks places then (7, NoSlot racks g) ∷ []) (asked racks places g .answer)
   pub phase-plan : (racks : List Rack) (places lent : List ℕ)
-      → Given (planned racks places lent .answer .number) (tableRows racks places then (13, TooShort lent (flat (plan racks places))) ∷ [])
+      → Answered racks places (tableRows racks places then (13, TooShort lent (flat (plan racks places))) ∷ []) (planned racks places lent .answer)
   pub one-move : (racks : List Rack) (b : ℕ) (h : Held) (from to : ℕ)
-      → Given (moved racks b h (from, to) .answer .number) (cardRows racks b (h .places) (h .cards) then endRows racks (h .places) from to)
-  pub budgeted-moves : (racks : List Rack) (b : ℕ) (h : Held) (k : ℕ) → Given (budgeted racks b h k .answer .number) (cardRows racks b (h .places) (h .cards))
+      → Answered racks (h .places) (cardRows racks b (h .places) (h .cards) then endRows racks (h .places) from to) (moved racks b h (from, to) .answer)
+  pub budgeted-moves : (racks : List Rack) (b : ℕ) (h : Held) (k : ℕ)
+      → Answered racks (h .places) (cardRows racks b (h .places) (h .cards)) (budgeted racks b h k .answer)
   pub copy-list : (racks : List Rack) (places lent : List ℕ)
-      → Given (copied racks places lent .answer .number)
-      (tableRows racks places then (12, CardAway racks places) ∷ (13, TooShort lent (flat (copyList places))) ∷ [])
+      → Answered racks places (tableRows racks places then (12, CardAway racks places) ∷ (13, TooShort lent (flat (copyList places))) ∷ [])
+      (copied racks places lent .answer)
   pub shuffle-cards : (racks : List Rack) (b : ℕ) (h : Held)
-      → Given (shuffled racks b h .answer .number) (cardRows racks b (h .places) (h .cards) then (12, CardAway racks (h .places)) ∷ [])
-  pub whole-run : (racks : List Rack) (b : ℕ) (h : Held) → Given (ran racks b h .answer .number) (cardRows racks b (h .places) (h .cards))
+      → Answered racks (h .places) (cardRows racks b (h .places) (h .cards) then (12, CardAway racks (h .places)) ∷ []) (shuffled racks b h .answer)
+  pub whole-run : (racks : List Rack) (b : ℕ) (h : Held) → Answered racks (h .places) (cardRows racks b (h .places) (h .cards)) (ran racks b h .answer)
   pub read-file : (file caps places : List ℕ)
-      → Given (read file caps places .answer .number) (fileRows file then (17, NoRoom file caps places) ∷ [])
+      → FileAnswered file (fileRows file then (17, NoRoom file caps places) ∷ []) (read file caps places .answer)
   pub write-file : (racks : List Rack) (b : ℕ) (places cards lent : List ℕ)
-      → Given (filed racks b places cards lent .answer .number) (cardRows racks b places cards then (19, TooShort lent (fileFor racks b places cards)) ∷ [])
+      → Answered racks places (cardRows racks b places cards then (19, TooShort lent (fileFor racks b places cards)) ∷ [])
+      (filed racks b places cards lent .answer)
   -- a job is read from the reader's position on: the whole file from the start, and 15 where the position lies behind the end
   pub read-job : (reader : Reader) (caps places : List ℕ) (job : JobFile) (caps′ places′ : List ℕ) → JobRead reader caps places job caps′ places′
-      → Given (job .answer .number) (fileRows (ahead reader) then (17, NoRoom (ahead reader) caps places) ∷ [])
+      → FileAnswered (ahead reader) (fileRows (ahead reader) then (17, NoRoom (ahead reader) caps places) ∷ []) (job .answer)
   pub from-start : (reader : Reader) → reader .at ≡ 0 → ahead reader ≡ now (reader .file)
   pub behind-end : (reader : Reader) (caps places : List ℕ) → length (now (reader .file)) ≤ reader .at → read (ahead reader) caps places .answer .number ≡ 15
-  pub list-job : (file lent : List ℕ) → Given (printed file lent .answer .number) ((13, TooShort lent (listing file)) ∷ [])
+  -- a text that says `refused 5` is written like any other: the listing's own number has no place
+  pub list-job : (file lent : List ℕ)
+      → Given (printed file lent .answer .number) ((13, TooShort lent (listing file)) ∷ []) × (printed file lent .answer .place ≡ 0)
   -- one numeral of a file: 14, 20, 15, or its value by its groups and the position behind the last
   pub form : (file : List ℕ) (at : ℕ) → Given (numeral file at .number) (formRows file at)
   pub ends : (file : List ℕ) (at : ℕ) → numeral file at .number ≡ 0 → (i : ℕ) × EndsWith file at i
@@ -84,37 +90,38 @@ pub record Demand1 : Type 0 where
   -- and the slot question's user slots are those of condition 5
   pub user : (racks : List Rack) (g : ℕ) → (isUser racks g ≡ true) ↔ UserSlot racks g
 
--- a refusal: its number, and no counts
-abbrev pub refusedWith : ℕ → Answer
-refusedWith n = record { number = n; tally = noCounts }
+-- a refusal: the number of an answer and its place, and no counts
+abbrev pub refusedAs : Answer → Answer
+refusedAs a = record { number = a .number; place = a .place; tally = noCounts }
 
 -- what each call leaves on a refusal, all of it
 pub record Refusals : Type 0 where
-  pub check-table : (racks : List Rack) (places : List ℕ) (n : ℕ) → n ≢ 0 → checked racks places .number ≡ n → checked racks places ≡ refusedWith n
-  pub slot-question : (racks : List Rack) (places : List ℕ) (g n : ℕ) → n ≢ 0 → asked racks places g .answer .number ≡ n
-      → asked racks places g ≡ record { answer = refusedWith n; slot = nothing }
-  pub phase-plan : (racks : List Rack) (places lent : List ℕ) (n : ℕ) → n ≢ 0 → planned racks places lent .answer .number ≡ n
-      → planned racks places lent ≡ record { answer = refusedWith n; lent = lent }
-  pub one-move : (racks : List Rack) (b : ℕ) (h : Held) (from to n : ℕ) → n ≢ 0 → moved racks b h (from, to) .answer .number ≡ n
-      → moved racks b h (from, to) ≡ record { answer = refusedWith n; held = h }
-  pub budgeted-moves : (racks : List Rack) (b : ℕ) (h : Held) (k n : ℕ) → n ≢ 0 → budgeted racks b h k .answer .number ≡ n
-      → budgeted racks b h k ≡ record { answer = refusedWith n; held = h }
-  pub copy-list : (racks : List Rack) (places lent : List ℕ) (n : ℕ) → n ≢ 0 → copied racks places lent .answer .number ≡ n
-      → copied racks places lent ≡ record { answer = refusedWith n; lent = lent }
-  pub shuffle-cards : (racks : List Rack) (b : ℕ) (h : Held) (n : ℕ) → n ≢ 0 → shuffled racks b h .answer .number ≡ n
-      → shuffled racks b h ≡ record { answer = refusedWith n; held = h }
-  pub whole-run : (racks : List Rack) (b : ℕ) (h : Held) (n : ℕ) → n ≢ 0 → ran racks b h .answer .number ≡ n
-      → ran racks b h ≡ record { answer = refusedWith n; held = h }
-  pub read-file : (file caps places : List ℕ) (n : ℕ) → n ≢ 0 → read file caps places .answer .number ≡ n
+  pub check-table : (racks : List Rack) (places : List ℕ) → checked racks places .number ≢ 0
+      → checked racks places ≡ refusedAs (checked racks places)
+  pub slot-question : (racks : List Rack) (places : List ℕ) (g : ℕ) → asked racks places g .answer .number ≢ 0
+      → asked racks places g ≡ record { answer = refusedAs (asked racks places g .answer); slot = nothing }
+  pub phase-plan : (racks : List Rack) (places lent : List ℕ) → planned racks places lent .answer .number ≢ 0
+      → planned racks places lent ≡ record { answer = refusedAs (planned racks places lent .answer); lent = lent }
+  pub one-move : (racks : List Rack) (b : ℕ) (h : Held) (from to : ℕ) → moved racks b h (from, to) .answer .number ≢ 0
+      → moved racks b h (from, to) ≡ record { answer = refusedAs (moved racks b h (from, to) .answer); held = h }
+  pub budgeted-moves : (racks : List Rack) (b : ℕ) (h : Held) (k : ℕ) → budgeted racks b h k .answer .number ≢ 0
+      → budgeted racks b h k ≡ record { answer = refusedAs (budgeted racks b h k .answer); held = h }
+  pub copy-list : (racks : List Rack) (places lent : List ℕ) → copied racks places lent .answer .number ≢ 0
+      → copied racks places lent ≡ record { answer = refusedAs (copied racks places lent .answer); lent = lent }
+  pub shuffle-cards : (racks : List Rack) (b : ℕ) (h : Held) → shuffled racks b h .answer .number ≢ 0
+      → shuffled racks b h ≡ record { answer = refusedAs (shuffled racks b h .answer); held = h }
+  pub whole-run : (racks : List Rack) (b : ℕ) (h : Held) → ran racks b h .answer .number ≢ 0
+      → ran racks b h ≡ record { answer = refusedAs (ran racks b h .answer); held = h }
+  pub read-file : (file caps places : List ℕ) → read file caps places .answer .number ≢ 0
       → read file caps places
-      ≡ record { answer = refusedWith n; racks = 0; bytes = 0; slots = 0; caps = caps; places = places; start = 0; cards = [] }
-  pub write-file : (racks : List Rack) (b : ℕ) (places cards lent : List ℕ) (n : ℕ) → n ≢ 0 → filed racks b places cards lent .answer .number ≡ n
-      → filed racks b places cards lent ≡ record { answer = refusedWith n; size = 0; lent = lent }
-  pub read-job : (reader : Reader) (caps places : List ℕ) (job : JobFile) (caps′ places′ : List ℕ) (n : ℕ) → JobRead reader caps places job caps′ places′ → n ≢ 0
-      → job .answer .number ≡ n → jobSeen (job, caps′, places′) ≡ (refusedWith n, 0, 0, 0, 0, [], caps, places)
+      ≡ record { answer = refusedAs (read file caps places .answer); racks = 0; bytes = 0; slots = 0; caps = caps; places = places; start = 0; cards = [] }
+  pub write-file : (racks : List Rack) (b : ℕ) (places cards lent : List ℕ) → filed racks b places cards lent .answer .number ≢ 0
+      → filed racks b places cards lent ≡ record { answer = refusedAs (filed racks b places cards lent .answer); size = 0; lent = lent }
+  pub read-job : (reader : Reader) (caps places : List ℕ) (job : JobFile) (caps′ places′ : List ℕ) → JobRead reader caps places job caps′ places′ → job .answer .number ≢ 0
+      → jobSeen (job, caps′, places′) ≡ (refusedAs (job .answer), 0, 0, 0, 0, [], caps, places)
   -- a numeral that is refused leaves the position where it was
   pub step-at : (file : List ℕ) (at n : ℕ) (step : Step) → Stepped file at step → n ≢ 0 → numeral file at .number ≡ n → (step .numeral ≡ Refused n) × (step .at ≡ at)
   pub next : (before after : Reader) (x : Numeral) (n : ℕ) → Next before x after → n ≢ 0 → numeral (now (before .file)) (before .at) .number ≡ n
       → (x ≡ Refused n) × (after .file ≡ before .file) × (after .at ≡ before .at)
-  pub list-job : (file lent : List ℕ) (n : ℕ) → n ≢ 0 → printed file lent .answer .number ≡ n
-      → printed file lent ≡ record { answer = refusedWith n; size = 0; lent = lent }
+  pub list-job : (file lent : List ℕ) → printed file lent .answer .number ≢ 0
+      → printed file lent ≡ record { answer = refusedAs (printed file lent .answer); size = 0; lent = lent }

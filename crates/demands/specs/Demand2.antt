@@ -10,7 +10,7 @@ use Rattle.counting.specs.Lists.{Pair, join, matching}
 use Rattle.counting.specs.Every.{All, Pairwise, In}
 use Rattle.racks.specs.Racks.{Rack, slots, rackOf}
 use Rattle.racks.specs.Table.{aways, owes}
-use Rattle.answers.specs.Answers.{answer, movesOf}
+use Rattle.answers.specs.Answers.{placeless, answer, movesOf}
 use Rattle.plans.specs.Plan.{room, plan}
 use Rattle.moves.specs.Moves.{Held, carried, between, moved, Disjoint}
 use Rattle.moves.specs.Phases.{phases, budgeted}
@@ -139,7 +139,7 @@ module _ (racks : List Rack) (b : ℕ) (h : Held) where
     pub move-count : ran racks b h .answer .tally .moves ≡ aways racks (h .places)
     pub copy-count : ran racks b h .answer .tally .copies ≡ length (copyList (phaseHeld (length plans) .places))
     -- budgeted moves make the first k of all these pairs; with a budget of at least the cards away, and then the shuffle, they are the whole run
-    pub first-k : (k : ℕ) → budgeted racks b h k ≡ record { answer = answer 0 (movesOf (min k (aways racks (h .places)))); held = carried b (take k (join plans)) h }
+    pub first-k : (k : ℕ) → budgeted racks b h k ≡ record { answer = answer (placeless 0) (movesOf (min k (aways racks (h .places)))); held = carried b (take k (join plans)) h }
     pub by-budget : (k : ℕ) → aways racks (h .places) ≤ k → ran racks b h .held ≡ shuffled racks b (budgeted racks b h k .held) .held
 
 -- **Demand 2**, of every accepted job

@@ -15,7 +15,7 @@ use Rattle.racks.specs.Limits.{FREE}
 use Rattle.racks.specs.Racks.{Rack, slots}
 use Rattle.racks.specs.Numbers.{cardChecks}
 use Rattle.racks.specs.Table.{dest, free, away, aways, owes, names}
-use Rattle.answers.specs.Answers.{answer, movesOf}
+use Rattle.answers.specs.Answers.{placeless, answer, movesOf}
 use Rattle.moves.specs.Blocks.{block}
 use Rattle.moves.specs.Moves.{Held, carried, between, endChecks, moved}
 use Rattle.owed.specs.Awaits.{awaits}
@@ -51,7 +51,7 @@ module _ (racks : List Rack) (b : ℕ) (h : Held) (calls : List Call) where
     pub end-is : end ≡ point moveCount
     -- every move made, inside budgeted calls too, is a single move that is accepted when its turn comes
     pub each-move : (n : ℕ) → n < moveCount
-        → moved racks b (point n) (moveAt n) ≡ record { answer = answer 0 (movesOf 1); held = point (suc n) }
+        → moved racks b (point n) (moveAt n) ≡ record { answer = answer (placeless 0) (movesOf 1); held = point (suc n) }
     -- at every point 1 to 6 find nothing to refuse, so only 7 to 11 can refuse a single move there
     pub accepted : (n : ℕ) → first (cardChecks racks b (point n .places) (point n .cards)) ≡ 0
     pub only-ends : (n from to : ℕ) → moved racks b (point n) (from, to) .answer .number ≡ first (endChecks racks (point n .places) (from, to))

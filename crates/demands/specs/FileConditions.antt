@@ -67,13 +67,17 @@ numeralRows ask (suc n) file at before =
     let x = numeral file at in
     formRows file at then ask before (x .value) then numeralRows ask n file (x .next) (before ++ x .value ∷ [])
 
+-- the rows of the first n entries
+abbrev pub entryRows : List ℕ → ℕ → List Row
+entryRows file n = numeralRows (askEntry (fileRacks file)) n file (readM file .next) []
+
 -- the rows of a file: N, B, the m_p, the entries; after the last entry 6, then 15 or 16 for the card bytes
 abbrev pub fileRows : List ℕ → List Row
 fileRows file =
     numeralRows askN 1 file 0 []
     then numeralRows askB 1 file (readN file .next) []
     then numeralRows askM (getD (readN file .values) 0 0) file (readB file .next) []
-    then numeralRows (askEntry (fileRacks file)) (slots (fileRacks file)) file (readM file .next) []
+    then entryRows file (slots (fileRacks file))
     then (6, TwoNameOne (filePlaces file))
     ∷ (15, length (fileCards file) < slots (fileRacks file) * fileBytes file)
     ∷ (16, slots (fileRacks file) * fileBytes file < length (fileCards file))

@@ -5,8 +5,9 @@ use Prim.Native.Nat.{ℕ}
 use denote.Ref.{RefT, now}
 use Rattle.counting.specs.One.{One, OneSeen}
 use Rattle.racks.specs.Job.{JobOf}
-use Rattle.answers.specs.Answers.{TallyNone, TallyOfMoves, TallyOfCopies, AnswerOf, AnswerDone}
+use Rattle.answers.specs.Answers.{TallyNone, TallyOfMoves, TallyOfCopies, RefusalOf, AnswerRefused, AnswerOf, AnswerDone}
 use Rattle.answers.specs.declared.Tally.{Tally}
+use Rattle.answers.specs.declared.Refusal.{Refusal}
 use Rattle.answers.specs.declared.Answer.{Answer}
 use Rattle.tables.specs.Check.{CheckTable}
 use Rattle.slots.specs.Slots.{SlotQuestion}
@@ -62,6 +63,8 @@ pub record OneOutcome : Type 0 where
   pub tally-none : One TallyNone
   pub tally-of-moves : (moves : ℕ) → One (TallyOfMoves moves)
   pub tally-of-copies : (copies : ℕ) → One (TallyOfCopies copies)
+  pub refusal-of : (n : ℕ) → One (RefusalOf n)
+  pub answer-refused : (refusal : Refusal) → One (AnswerRefused refusal)
   pub answer-of : (n : ℕ) → One (AnswerOf n)
   pub answer-done : (tally : Tally) → One (AnswerDone tally)
   -- the calls from C: the same, of the numbers that C is given

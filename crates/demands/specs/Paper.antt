@@ -5,11 +5,11 @@ use Prim.Native.Nat.{ℕ}
 use Rattle.counting.specs.Lists.{Pair}
 use Rattle.racks.specs.Limits.{FREE, HAND}
 use Rattle.racks.specs.Racks.{Rack}
-use Rattle.answers.specs.Answers.{answer, noCounts}
+use Rattle.answers.specs.Answers.{placeless, answer, noCounts}
 use Rattle.moves.specs.Moves.{Held, movedPlaces, movedCards, carriedPlaces, carriedCards, endChecks, moveChecks, moved}
 use Rattle.texts.specs.Text.{text}
 use Rattle.counting.specs.Tests.{_and_, _or_}
-use Rattle.counting.specs.Count.{sum, count, some, select, seek}
+use Rattle.counting.specs.Count.{sum, count, some, select, seek, least}
 use Rattle.counting.specs.Lists.{tabulate, join, each, pairUp, flat, matching, among, last}
 use Rattle.counting.specs.Checks.{first}
 use Rattle.racks.specs.Racks.{ofCaps, rackAt, users, width, total, base, slots, endsBy, rackOf, spareOf, isUser}
@@ -64,11 +64,11 @@ held5 = record { places = 2 ∷ 0 ∷ FREE ∷ FREE ∷ []; cards = 0x41 ∷ 0x4
 
 -- a single move is refused with n, and nothing changes
 abbrev refuses : List Rack → Held → Pair → ℕ → Type 0
-refuses racks h m n = moved racks 1 h m ≡ record { answer = answer n noCounts; held = h }
+refuses racks h m n = moved racks 1 h m ≡ record { answer = answer (placeless n) noCounts; held = h }
 
--- the table check gives n
-abbrev checks : List Rack → List ℕ → ℕ → Type 0
-checks racks places n = checked racks places ≡ answer n noCounts
+-- the table check gives n with the place p
+abbrev checks : List Rack → List ℕ → ℕ → ℕ → Type 0
+checks racks places n p = checked racks places ≡ answer (record { number = n; place = p }) noCounts
 
 -- a numeral read, and a file refused
 abbrev reads : List ℕ → ℕ → ℕ → Type 0
@@ -92,7 +92,7 @@ pub record Paper : Type 0 where
   -- 2: k = 4, and slot 1 alone is away; k = 0; k = 9
   pub budget4 : budgeted racks1 1 held1 4
       ≡ record {
-        answer = answer 0 (record { phases = 0; moves = 4; copies = 0 });
+        answer = answer (placeless 0) (record { phases = 0; moves = 4; copies = 0 });
         held =
             record {
               places = 1 ∷ 4 ∷ 0 ∷ FREE ∷ FREE ∷ 3 ∷ FREE ∷ 6 ∷ [];
@@ -100,10 +100,10 @@ pub record Paper : Type 0 where
             };
       }
   pub one-left : select (slots racks1) (away racks1 (budgeted racks1 1 held1 4 .held .places)) ≡ 1 ∷ []
-  pub budget0 : budgeted racks1 1 held1 0 ≡ record { answer = answer 0 noCounts; held = held1 }
+  pub budget0 : budgeted racks1 1 held1 0 ≡ record { answer = answer (placeless 0) noCounts; held = held1 }
   pub budget9 : budgeted racks1 1 held1 9
       ≡ record {
-        answer = answer 0 (record { phases = 0; moves = 5; copies = 0 });
+        answer = answer (placeless 0) (record { phases = 0; moves = 5; copies = 0 });
         held =
             record {
               places = 1 ∷ FREE ∷ 0 ∷ 4 ∷ FREE ∷ 3 ∷ FREE ∷ 6 ∷ [];
@@ -121,9 +121,9 @@ pub record Paper : Type 0 where
   pub six-11 : refuses racks4 held4 (0, 2) 11
   pub six-9 : refuses racks4 held5 (1, 2) 9
   -- 7: tables
-  pub seven-spare : checks racks4 (3 ∷ FREE ∷ 0 ∷ FREE ∷ []) 5
-  pub seven-twice : checks racks4 (0 ∷ FREE ∷ 0 ∷ FREE ∷ []) 6
-  pub seven-both : checks racks3 (2 ∷ 2 ∷ FREE ∷ []) 5
+  pub seven-spare : checks racks4 (3 ∷ FREE ∷ 0 ∷ FREE ∷ []) 5 0
+  pub seven-twice : checks racks4 (0 ∷ FREE ∷ 0 ∷ FREE ∷ []) 6 2
+  pub seven-both : checks racks3 (2 ∷ 2 ∷ FREE ∷ []) 5 0
   -- 8: numerals
   pub eight-128 : reads (0x80 ∷ 0x01 ∷ []) 128 2
   pub eight-16384 : reads (0x80 ∷ 0x80 ∷ 0x01 ∷ []) 16384 3
@@ -132,5 +132,5 @@ pub record Paper : Type 0 where
   pub eight-long : refusesNumeral (0x80 ∷ 0x80 ∷ 0x80 ∷ []) 20
 
 pub paper : Paper
-unfolding _and_ _or_ sum count some select seek tabulate join each pairUp flat matching among last first ofCaps rackAt users width total base slots endsBy rackOf spareOf isUser free settled rackTo onRack away aways awayTo bound owes freeOn names badCount badBytes tooLarge badSize badPlaces badCards badEntry badEntries repeats badTwice noSlot sourceFree sourceHome elsewhere targetTaken someAway tooShort tableChecks placesChecks rackChecks cardChecks checked other sources lowest granted openSlots room arrivals planFor plan block putBlock blank movedPlaces movedCards carriedPlaces carriedCards endChecks moveChecks moved phasesFrom phases budget budgeted source following onward back onCycle head factor factorsFrom factors shift cycle copies copyList taken laid copyMade runCopies brought isNamed lastEntry lastCard settledHeld gathered hasPairs counts groups lastGroup numeral numerals wrongN wrongB wrongM wrongEntry entryOf readN readB readM fileRacks readEntries fileBytes filePlaces fileCards fileChecks digit digits decimal hex slotText arrow phaseLine phaseLines copiesLine cardText cardsLine endLine refusedLine programChecks fileHeld runText listing
+unfolding _and_ _or_ sum count some select seek least tabulate join each pairUp flat matching among last first ofCaps rackAt users width total base slots endsBy rackOf spareOf isUser free settled rackTo onRack away aways awayTo bound owes freeOn names badCount badBytes tooLarge badSize badPlaces badCards badEntry badEntries repeats badTwice noSlot sourceFree sourceHome elsewhere targetTaken someAway tooShort tableChecks placesChecks rackChecks cardChecks checked other sources lowest granted openSlots room arrivals planFor plan block putBlock blank movedPlaces movedCards carriedPlaces carriedCards endChecks moveChecks moved phasesFrom phases budget budgeted source following onward back onCycle head factor factorsFrom factors shift cycle copies copyList taken laid copyMade runCopies brought isNamed lastEntry lastCard settledHeld gathered hasPairs counts groups lastGroup numeral numerals wrongN wrongB wrongM wrongEntry entryOf readN readB readM fileRacks readEntries fileBytes filePlaces fileCards fileChecks digit digits decimal hex slotText arrow phaseLine phaseLines copiesLine cardText cardsLine endLine refusedLine programChecks fileHeld runText listing
 paper = record { shelve = refl; budget4 = refl; one-left = refl; budget0 = refl; budget9 = refl; three = (refl, refl); four = (refl, refl); five = (refl, refl); six-10 = refl; six-8 = refl; six-7 = refl; six-11 = refl; six-9 = refl; seven-spare = refl; seven-twice = refl; seven-both = refl; eight-128 = refl; eight-16384 = refl; eight-padded = refl; eight-cut = refl; eight-long = refl }

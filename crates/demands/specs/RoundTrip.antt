@@ -6,7 +6,7 @@ use mathlib.Core.List.{List}
 use Prim.Native.Nat.{ℕ, _+_, _-_, _*_, _≤_}
 use lib.ListN.{length, take}
 use lib.Seq.{sets}
-use Rattle.answers.specs.Answers.{answer, noCounts}
+use Rattle.answers.specs.Answers.{placeless, answer, noCounts}
 use Rattle.answers.specs.declared.SizeAnswer.{SizeAnswer}
 use Rattle.racks.specs.Racks.{ofCaps}
 use Rattle.moves.specs.Moves.{held}
@@ -22,7 +22,7 @@ pub record RoundTrip : Type 0 where
       → WriteFile caps b places cards lent r lent′ → r .answer .number ≡ 0 → length caps ≤ length caps₀ → length places ≤ length places₀
       → read (take (r .size) lent′) caps₀ places₀
       ≡ record {
-        answer = answer 0 noCounts;
+        answer = answer (placeless 0) noCounts;
         racks = length caps;
         bytes = b;
         slots = length places;
@@ -35,7 +35,7 @@ pub record RoundTrip : Type 0 where
   pub written-read : (file caps₀ places₀ lent : List ℕ) → Bytes file → read file caps₀ places₀ .answer .number ≡ 0 → length file ≤ length lent
       → let r = read file caps₀ places₀ in
       filed (ofCaps (take (r .racks) (r .caps))) (r .bytes) (take (r .slots) (r .places)) (r .cards) lent
-      ≡ record { answer = answer 0 noCounts; size = length file; lent = sets lent 0 file }
+      ≡ record { answer = answer (placeless 0) noCounts; size = length file; lent = sets lent 0 file }
   -- the file of an accepted job has at most three bytes for N and B, two for each rack and each slot, and the card bytes: room that is always enough
   pub enough : (caps : List ℕ) (b : ℕ) (places cards : List ℕ) → Accepted caps b (held places cards)
       → length (fileFor (ofCaps caps) b places cards) ≤ 3 + 2 * (length caps + length places) + length cards

@@ -5,8 +5,8 @@ use Prim.Native.Nat.{ℕ, suc, _+_, _≤_, _<_}
 use native.Mathlib.Omega.{arith}
 use native.Mathlib.Decide.{ℕ-discrete, decLt}
 use lib.Dec.{ltb}
-use lib.ListN.{length, getD, set, length-set, replicate, getD-replicate}
-use lib.Seq.{getD-set-same, getD-set-other}
+use lib.ListN.{length, getD, set, length-set, replicate, length-replicate, getD-replicate}
+use lib.Seq.{getD-set-same, getD-set-other, ext-getD}
 use borrow.Author.Tests.{lt-ltb, le-ltb}
 use Rattle.counting.specs.Tests.{bit}
 use Rattle.racks.specs.Racks.{Rack, base, slots, spareOf, isUser}
@@ -38,6 +38,12 @@ between-done low g high value before t l h e b =
       above = λ k m m′. elim (decLt low g) [ yes q ↦ b .above k (omega (arith, e q)) m′ | no q ↦ b .above k (omega arith) m′ ];
       long = b .long;
     }
+
+-- a list for all slots that is filled with 0
+pub cleared : (before t : List ℕ) → length before ≡ 4096 → FilledFrom 0 4096 0 before t → t ≡ replicate 4096 0
+cleared before t e b =
+    let l : length t ≡ 4096 = b .long ∙ e in
+    ext-getD 0 t (replicate 4096 0) (l ∙ sym (length-replicate {A = ℕ} 4096 0)) (λ g m. b .inside g (omega arith) (omega arith) ∙ sym (getD-replicate {A = ℕ} 4096 g 0 0 (omega arith)))
 
 -- the slots below n have their marks, and there is none behind them
 pub record MarkedTo (racks : List Rack) (n : ℕ) (t : List ℕ) : Type 0 where

@@ -1,7 +1,7 @@
--- Laws of the pass over the entries: the marks, and the numbers 5 and 6. Assumes nothing.
+-- Laws of the pass over the entries: the marks, and the numbers 5 and 6 with their places. Assumes nothing.
 use mathlib.Core.Path.{_≡_, refl, ap, sym, _∙_}
 use mathlib.Core.Bool.{Bool, true, false, not}
-use mathlib.Core.List.{List, [], _∷_}
+use mathlib.Core.List.{List}
 use Prim.Native.Nat.{ℕ, _+_, _≤_, _<_}
 use native.Mathlib.Omega.{arith}
 use native.Mathlib.Decide.{ℕ-discrete, decLt}
@@ -13,16 +13,19 @@ use borrow.Author.Count.{below-more}
 use Rattle.counting.specs.Tests.{_and_, _or_, pick}
 use Rattle.counting.specs.Count.{some}
 use Rattle.counting.specs.Checks.{first}
-use Rattle.counting.proofs.Tests.{by-test, or-r, or-false, or-l, not-on, and-off-l, no-way}
+use Rattle.counting.proofs.Tests.{by-test, or-r, or-false, or-l, or-none, pick-same, not-on, and-off-l, no-way}
 use Rattle.counting.proofs.Some.{some-hit, some-none, some-cong, some-more, some-zero}
-use Rattle.counting.proofs.Checks.{first-here, first-later}
+use Rattle.counting.proofs.Least.{least-is, least-kept, least-new, least-cong}
+use Rattle.counting.proofs.Checks.{first-here}
+use Rattle.answers.specs.Answers.{placeless}
+use Rattle.answers.specs.declared.Refusal.{Refusal}
 use Rattle.racks.specs.Limits.{FREE}
 use Rattle.racks.specs.Racks.{Rack, slots, isUser}
 use Rattle.racks.specs.Table.{dest, free, names}
 use Rattle.racks.specs.Numbers.{badEntry, badEntries, repeats, badTwice}
 use Rattle.racks.proofs.Geometry.{user-lt}
 use Rattle.racks.proofs.Legal.{entry-cases}
-use Rattle.entries.specs.parts.Marks.{UsersMarked, markOf, numberOf, entryNumber, named, Entered, entriesNumber, worse}
+use Rattle.entries.specs.parts.Marks.{UsersMarked, markOf, numberOf, entryNumber, named, Entered, entriesNumber, entriesRefusal, worse, firstTwice, twiceTo}
 
 -- one entry, by the tests that the code makes
 module _ (marks : List ℕ) (x : ℕ) (long : length marks ≡ 4096) where
@@ -54,39 +57,47 @@ module _ (marks : List ℕ) (x : ℕ) (long : length marks ≡ 4096) where
     unfolding numberOf named
     entered-0 e = record { number-is = sym (by-mark ∙ rw e); marks-are = rw e }
 
--- the first g entries were passed: none is bad, the user slots that they name are marked, and `worst` is 6 where one repeats another
-pub record Passed (racks : List Rack) (places marks : List ℕ) (worst g : ℕ) : Type 0 where
+-- the first g entries were passed: none is bad, the user slots that they name are marked, and `twice` is 6 and the lowest that repeats an earlier one
+pub record Passed (racks : List Rack) (places marks : List ℕ) (twice : Refusal) (g : ℕ) : Type 0 where
   pub clean : (k : ℕ) → k < g → badEntry racks places k ≡ false
   pub marks-are : (v : ℕ) → v < 4096 → getD marks v 0 ≡ markOf racks places g v
-  pub worst-is : worst ≡ pick (some g (repeats places)) 6 0
+  pub twice-is : twice ≡ twiceTo places g
   pub long : length marks ≡ 4096
 
-pub passed-none : (racks : List Rack) (places marks : List ℕ) → UsersMarked racks marks → Passed racks places marks 0 0
-unfolding markOf
+pub passed-none : (racks : List Rack) (places marks : List ℕ) → UsersMarked racks marks → Passed racks places marks (placeless 0) 0
+unfolding markOf twiceTo
 passed-none racks places marks m =
     record {
       clean = λ k l. absurd (omega arith);
       marks-are = λ v l. by-test (isUser racks v) (λ u. rw (u, some-zero (names places v)) (m .marks v l ∙ rw u)) (λ u. rw u (m .marks v l ∙ rw u));
-      worst-is = rw (some-zero (repeats places));
+      twice-is = rw (some-zero (repeats places));
       long = m .long;
     }
 
 -- it is the first g entries alone that were passed: another table may have the same
-pub passed-cong : (racks : List Rack) (p q marks : List ℕ) (worst g : ℕ) → ((h : ℕ) → h < g → dest p h ≡ dest q h) → Passed racks p marks worst g → Passed racks q marks worst g
-unfolding badEntry repeats free names markOf
-passed-cong racks p q marks worst g e h =
-    record {
-      clean = λ k l. ap (λ (x : ℕ). not (eqb x FREE or isUser racks x)) (sym (e k l)) ∙ h .clean k l;
-      marks-are = λ v l.
-          h .marks-are v l
-          ∙ ap (λ (b : Bool). pick (isUser racks v) (pick b 2 1) 0) (some-cong g (names p v) (names q v) (λ k m. ap (λ (x : ℕ). eqb x v) (e k m)));
-      worst-is =
-          h .worst-is
-          ∙ ap (λ (b : Bool). pick b 6 0) (some-cong g (repeats p) (repeats q) (λ k l.
-          ap (λ (x : ℕ). not (eqb x FREE) and some k (names p x)) (e k l)
-          ∙ ap (λ (b : Bool). not (eqb (dest q k) FREE) and b) (some-cong k (names p (dest q k)) (names q (dest q k)) (λ j m. ap (λ (x : ℕ). eqb x (dest q k)) (e j (omega arith))))));
-      long = h .long;
-    }
+module _ (racks : List Rack) (p q marks : List ℕ) (g : ℕ) (e : (h : ℕ) → h < g → dest p h ≡ dest q h) where
+  repeats-cong : (k : ℕ) → k < g → repeats p k ≡ repeats q k
+  unfolding repeats free names
+  repeats-cong k l =
+      ap (λ (x : ℕ). not (eqb x FREE) and some k (names p x)) (e k l)
+      ∙ ap (λ (b : Bool). not (eqb (dest q k) FREE) and b)
+      (some-cong k (names p (dest q k)) (names q (dest q k)) (λ j m. ap (λ (x : ℕ). eqb x (dest q k)) (e j (omega arith))))
+
+  twice-cong : twiceTo p g ≡ twiceTo q g
+  unfolding twiceTo
+  twice-cong = rw (some-cong g (repeats p) (repeats q) repeats-cong, least-cong g (repeats p) (repeats q) repeats-cong)
+
+  pub passed-cong : (twice : Refusal) → Passed racks p marks twice g → Passed racks q marks twice g
+  unfolding badEntry free names markOf
+  passed-cong twice h =
+      record {
+        clean = λ k l. ap (λ (x : ℕ). not (eqb x FREE or isUser racks x)) (sym (e k l)) ∙ h .clean k l;
+        marks-are = λ v l.
+            h .marks-are v l
+            ∙ ap (λ (b : Bool). pick (isUser racks v) (pick b 2 1) 0) (some-cong g (names p v) (names q v) (λ k m. ap (λ (x : ℕ). eqb x v) (e k m)));
+        twice-is = h .twice-is ∙ twice-cong;
+        long = h .long;
+      }
 
 -- a free slot's entry repeats none
 pub repeats-free : (places : List ℕ) (g : ℕ) → dest places g ≡ FREE → repeats places g ≡ false
@@ -109,12 +120,19 @@ module _ (racks : List Rack) (small : slots racks ≤ 4096) (places : List ℕ) 
   unfolding repeats free _and_
   repeats-user f = rw (ne-eqb (dest places g) FREE f)
 
-  worse-more : (worst n : ℕ) (b : Bool) → repeats places g ≡ b → n ≡ pick b 6 0 → worst ≡ pick (some g (repeats places)) 6 0 → worse worst n ≡ pick (some (g + 1) (repeats places)) 6 0
-  unfolding worse
-  worse-more worst n true r e w = rw (e, some-more g (repeats places), or-r (some g (repeats places)) r)
-  worse-more worst n false r e w = rw (e, some-more g (repeats places), or-false (some g (repeats places)) r) w
+  -- what was found before the entry stays, where it is a 6; else 6 is given to this one, where it repeats an earlier one
+  twice-more : (twice : Refusal) (n : ℕ) (b : Bool) → repeats places g ≡ b → n ≡ pick b 6 0 → twice ≡ twiceTo places g → firstTwice twice n g ≡ twiceTo places (g + 1)
+  unfolding firstTwice twiceTo
+  twice-more twice n b r e w = by-test (some g (repeats places)) found (new b r e)
+    where
+      found : some g (repeats places) ≡ true → firstTwice twice n g ≡ twiceTo places (g + 1)
+      found h = rw (w, h, some-more g (repeats places), or-l (repeats places g) h, least-kept g (repeats places) h)
 
-  module _ (marks : List ℕ) (worst : ℕ) (p : Passed racks places marks worst g) where
+      new : (c : Bool) → repeats places g ≡ c → n ≡ pick c 6 0 → some g (repeats places) ≡ false → firstTwice twice n g ≡ twiceTo places (g + 1)
+      new true q z h = rw (w, z, h, some-more g (repeats places), or-r (some g (repeats places)) q, least-new g (repeats places) h q)
+      new false q z h = rw (w, z, h, some-more g (repeats places), or-none h q)
+
+  module _ (marks : List ℕ) (twice : Refusal) (p : Passed racks places marks twice g) where
     -- the mark of the slot that the entry names
     mark-none : isUser racks (dest places g) ≡ false → getD marks (dest places g) 0 ≡ 0
     unfolding markOf
@@ -197,35 +215,52 @@ module _ (racks : List Rack) (small : slots racks ≤ 4096) (places : List ℕ) 
         marks-more = entry-cases racks places g (clean-5 f) after-free
             (λ h u. by-test (some g (names places (dest places g))) (after-again u) (after-new u))
 
-        worst-more : worse worst n ≡ pick (some (g + 1) (repeats places)) 6 0
-        worst-more = entry-cases racks places g (clean-5 f)
-            (λ h. worse-more worst n false (repeats-free places g h) (n-free h) (p .worst-is))
+        twice-next : firstTwice twice n g ≡ twiceTo places (g + 1)
+        twice-next = entry-cases racks places g (clean-5 f)
+            (λ h. twice-more twice n false (repeats-free places g h) (n-free h) (p .twice-is))
             (λ h u. by-test (some g (names places (dest places g)))
-            (λ b. worse-more worst n true (repeats-user h ∙ b) (n-user h u true b) (p .worst-is))
-            (λ b. worse-more worst n false (repeats-user h ∙ b) (n-user h u false b) (p .worst-is)))
+            (λ b. twice-more twice n true (repeats-user h ∙ b) (n-user h u true b) (p .twice-is))
+            (λ b. twice-more twice n false (repeats-user h ∙ b) (n-user h u false b) (p .twice-is)))
 
         long-more : length after ≡ 4096
         unfolding named
         long-more = ap length (e .marks-are) ∙ by-test (eqb (getD marks (dest places g) 0) 1)
             (λ t. rw t (length-set marks (dest places g) 2 ∙ p .long)) (λ t. rw t (p .long))
 
-        pub passed-more : Passed racks places after (worse worst n) (g + 1)
+        pub passed-more : Passed racks places after (firstTwice twice n g) (g + 1)
         passed-more =
             record {
               clean = below-more (λ k. badEntry racks places k ≡ false) g (p .clean) (clean-5 f);
               marks-are = marks-more;
-              worst-is = worst-more;
+              twice-is = twice-next;
               long = long-more;
             }
 
--- the whole table
-pub entries-5 : (racks : List Rack) (places : List ℕ) (g : ℕ) → g < length places → badEntry racks places g ≡ true → 5 ≡ entriesNumber racks places
-unfolding entriesNumber badEntries
-entries-5 racks places g l h = sym (first-here _ 5 _ (some-hit (length places) (badEntry racks places) g l h))
+-- the number of what is found, and what is found where that is 0
+module _ (places : List ℕ) (g : ℕ) (twice : Refusal) (e : twice ≡ twiceTo places g) where
+  pub worse-number : (n : ℕ) → worse (twice .number) n ≡ firstTwice twice n g .number
+  unfolding worse firstTwice twiceTo
+  worse-number n = by-test (some g (repeats places))
+      (λ h. rw (e, h) (pick-same {A = ℕ} (eqb n 6) 6))
+      (λ h. rw (e, h) (by-test (eqb n 6) (λ k. rw k) (λ k. rw k)))
 
-pub entries-passed : (racks : List Rack) (places marks : List ℕ) (worst g : ℕ) → g ≡ length places → Passed racks places marks worst g → worst ≡ entriesNumber racks places
-unfolding entriesNumber badEntries badTwice first
-entries-passed racks places marks worst g e p =
-    p .worst-is
-    ∙ ap (λ (k : ℕ). pick (some k (repeats places)) 6 0) e
-    ∙ sym (first-later (some (length places) (badEntry racks places)) 5 ((some (length places) (repeats places), 6) ∷ []) (some-none (length places) (badEntry racks places) (λ k l. p .clean k (omega arith))))
+  pub twice-none : twice .number ≡ 0 → twice ≡ placeless 0
+  unfolding twiceTo
+  twice-none z = by-test (some g (repeats places))
+      (λ h. let q : twice .number ≡ 6 = ap (λ (x : Refusal). x .number) (rw h at e) in absurd (omega arith))
+      (λ h. rw h at e)
+
+-- the whole table: the lowest bad entry, where there is one
+module _ (racks : List Rack) (places : List ℕ) where
+  pub entries-5 : (g : ℕ) → g < length places → badEntry racks places g ≡ true → ((k : ℕ) → k < g → badEntry racks places k ≡ false)
+      → record { number = 5; place = g } ≡ entriesRefusal racks places
+  unfolding entriesRefusal entriesNumber badEntries
+  entries-5 g l h c =
+      rw (first-here (some (length places) (badEntry racks places)) 5 _ (some-hit (length places) (badEntry racks places) g l h), least-is (length places) (badEntry racks places) g l h c)
+
+  -- else the lowest that repeats an earlier one
+  pub entries-passed : (marks : List ℕ) (twice : Refusal) (g : ℕ) → g ≡ length places → Passed racks places marks twice g → twice ≡ entriesRefusal racks places
+  unfolding entriesRefusal entriesNumber badEntries badTwice first twiceTo
+  entries-passed marks twice g e p =
+      let none = some-none (length places) (badEntry racks places) (λ k l. p .clean k (omega arith)) in
+      p .twice-is ∙ ap (twiceTo places) e ∙ by-test (some (length places) (repeats places)) (λ h. rw (none, h)) (λ h. rw (none, h))

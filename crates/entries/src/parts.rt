@@ -1,4 +1,4 @@
-// The entries of a table: their number by marks, in a quick pass that only says whether it is 0, and in one that finds it.
+// The entries of a table: their refusal by marks, in a quick pass that only says whether there is none, and in one that finds it.
 ghost use mathlib.Core.Path.{_≡_};
 ghost use mathlib.Core.Bool.{true};
 ghost use Prim.Native.Nat.{_≤_, _<_};
@@ -6,8 +6,9 @@ ghost use lib.ListN.{length, replicate};
 ghost use Rattle.counting.specs.Tests.{_and_};
 ghost use Rattle.racks.specs.Limits.{SLOTS, MARKS};
 ghost use Rattle.racks.specs.Job.{racksOf, Sound};
-ghost use Rattle.entries.specs.parts.Marks.{FilledFrom, UsersMarked, Entered, entriesNumber, worse};
+ghost use Rattle.entries.specs.parts.Marks.{FilledFrom, UsersMarked, Entered, entriesNumber, entriesRefusal, worse, firstTwice};
 ghost use Rattle.entries.specs.parts.Once.{markAt, MarkTaken, OnceMarked};
+use answers::Refusal;
 use racks::Job;
 
 // One value from `low` up to `high` in a list of bytes.
@@ -71,32 +72,61 @@ pub fn worse_of(was: u8, now: u8) -> u8
     was
 }
 
-// 5, 6 or 0 for the entries, S of them: one pass. The marks are lent with the user slots marked.
-fn entries_number(job: Job, places: &[u16], marks: &mut [u8; Job::MAX_SLOTS]) -> u8
-    requires { ⌜ Sound job × (length (now places) ≡ job .slots) × UsersMarked (racksOf job) (now marks) ⌝ }
-    ensures { λ r. ⌜ r ≡ entriesNumber (racksOf job) (now (places .entry)) ⌝ }
+// 6 at the first of the entries that it is given to: what was found before entry g, and the number of that entry.
+fn first_twice(was: Refusal, number: u8, g: usize) -> Refusal
+    ensures { λ r. ⌜ r ≡ firstTwice was number g ⌝ }
 {
-    let mut worst: u8 = 0;
+    if was.number != 0 {
+        return was;
+    }
+    if number == 6 {
+        return Refusal {
+            number: 6,
+            place: g,
+        };
+    }
+    was
+}
+
+// 5, 6 or 0 for the entries, S of them, and its place: one pass. The marks are lent with the user slots marked.
+fn entries_refusal(job: Job, places: &[u16], marks: &mut [u8; Job::MAX_SLOTS]) -> Refusal
+    requires { ⌜ Sound job × (length (now places) ≡ job .slots) × UsersMarked (racksOf job) (now marks) ⌝ }
+    ensures { λ r. ⌜ r ≡ entriesRefusal (racksOf job) (now (places .entry)) ⌝ }
+{
+    let mut twice = Refusal::of(0);
     let mut g: usize = 0;
     while g < job.slots {
         let number = entry_number(marks, places[g]);
         if number == 5 {
-            return 5;
+            return Refusal {
+                number: 5,
+                place: g,
+            };
         }
-        worst = worse_of(worst, number);
+        twice = first_twice(twice, number, g);
         g = g + 1;
     }
-    worst
+    twice
 }
 
-// The number of the entries of a table, with the marks made.
-pub fn number_entries(job: Job, places: &[u16]) -> u8
+// The refusal of the entries of a table, with the marks made.
+pub fn find_refusal(job: Job, places: &[u16]) -> Refusal
     requires { ⌜ Sound job × (length (now places) ≡ job .slots) ⌝ }
-    ensures { λ r. ⌜ r ≡ entriesNumber (racksOf job) (now (places .entry)) ⌝ }
+    ensures { λ r. ⌜ r ≡ entriesRefusal (racksOf job) (now (places .entry)) ⌝ }
 {
     let mut marks = [0u8; Job::MAX_SLOTS];
     mark_users(job, &mut marks);
-    entries_number(job, places, &mut marks)
+    entries_refusal(job, places, &mut marks)
+}
+
+// The same in marks that were used before: only a file that is refused pays for clearing them again.
+pub fn find_again(job: Job, places: &[u16], marks: &mut [u8; Job::MAX_SLOTS]) -> Refusal
+    requires { ⌜ Sound job × (length (now places) ≡ job .slots) × (length (now marks) ≡ SLOTS) ⌝ }
+    ensures { λ r. ⌜ r ≡ entriesRefusal (racksOf job) (now (places .entry)) ⌝ }
+{
+    fill(marks, 0, Job::MAX_SLOTS, 0);
+    mark_users(job, marks);
+    entries_refusal(job, places, marks)
 }
 
 // The mark of each spare is shut, and the one behind the last slot; the others are left.
@@ -132,7 +162,7 @@ fn mark_at(slots: usize, g: usize, x: u16) -> usize
     at
 }
 
-// Shuts the mark at a position; whether it was open.
+// Shuts a mark; whether it was open.
 fn take_mark(marks: &mut [u8; Job::MARKS], at: usize) -> bool
     requires { ⌜ (at < MARKS) × (length (now marks) ≡ MARKS) ⌝ }
     ensures { λ r. ⌜ MarkTaken (now (marks .entry)) at r (now (marks .exit)) ⌝ }
@@ -153,7 +183,7 @@ fn both(a: bool, b: bool) -> bool
 }
 
 // Whether each entry found its mark open: then no entry is refused. One pass without a branch on an entry, since free and taken slots may
-// alternate at random; which number a refused table gets is left to `number_entries`.
+// alternate at random; which number a refused table gets, and with which entry, is left to `find_refusal`.
 fn marked_once(job: Job, places: &[u16], marks: &mut [u8; Job::MARKS]) -> bool
     requires { ⌜ Sound job × (length (now places) ≡ job .slots) × OnceMarked (racksOf job) (now marks) ⌝ }
     ensures { λ r. ⌜ (r ≡ true → 0 ≡ entriesNumber (racksOf job) (now (places .entry))) ⌝ }

@@ -17,16 +17,17 @@ use Rattle.parsing.specs.declared.FileAnswer as jobfile
 use Rattle.answers.specs.declared.SizeAnswer as sizes
 use Rattle.flat.specs.Flat.{answerOf, kindNumber, stateNumber, rackNumber, slotNumbers, fileOf, sizeOf}
 
--- two answers of four numbers that are one answer of the layers are equal
+-- two answers of five numbers that are one answer of the layers are equal
 pub answer-same : (a b : Answer) → answerOf a ≡ answerOf b → a ≡ b
-answer-same a b e = ap (λ (x : layers.Answer). record { number = x .number; phases = x .tally .phases; moves = x .tally .moves; copies = x .tally .copies }) e
+answer-same a b e = ap (λ (x : layers.Answer). record { number = x .number; place = x .place; phases = x .tally .phases; moves = x .tally .moves; copies = x .tally .copies }) e
 
--- two answers of eight numbers that are one answer of the file reader are equal
+-- two answers of nine numbers that are one answer of the file reader are equal
 pub file-same : (a b : FileAnswer) → fileOf a ≡ fileOf b → a ≡ b
 file-same a b e =
     ap (λ (x : jobfile.FileAnswer).
     record {
       number = x .answer .number;
+      place = x .answer .place;
       phases = x .answer .tally .phases;
       moves = x .answer .tally .moves;
       copies = x .answer .tally .copies;
@@ -36,12 +37,13 @@ file-same a b e =
       start = x .start;
     }) e
 
--- two answers of five numbers that are one answer of the listing are equal
+-- two answers of six numbers that are one answer of a call that writes bytes are equal
 pub size-same : (a b : SizeAnswer) → sizeOf a ≡ sizeOf b → a ≡ b
 size-same a b e =
     ap (λ (x : sizes.SizeAnswer).
     record {
       number = x .answer .number;
+      place = x .answer .place;
       phases = x .answer .tally .phases;
       moves = x .answer .tally .moves;
       copies = x .answer .tally .copies;
@@ -78,11 +80,11 @@ state-back state.None = refl
 abbrev pub withSlot : slots.SlotAnswer → Kind → State → slots.SlotAnswer
 withSlot x k s = record { answer = x .answer; slot = record { kind = k; state = s } }
 
--- the slot question's answer that seven numbers stand for
+-- the slot question's answer that eight numbers stand for
 abbrev pub slotOf : SlotAnswer → slots.SlotAnswer
 slotOf r =
     record {
-      answer = record { number = r .number; tally = record { phases = r .phases; moves = r .moves; copies = r .copies } };
+      answer = record { number = r .number; place = r .place; tally = record { phases = r .phases; moves = r .moves; copies = r .copies } };
       slot = record { kind = kindOf (r .kind); state = stateOf (r .state) (r .rack) };
     }
 
@@ -91,6 +93,6 @@ slot-back x =
     ap (λ (k : Kind). withSlot x k (stateOf (stateNumber (x .slot .state)) (rackNumber (x .slot .state)))) (kind-back (x .slot .kind))
     ∙ ap (λ (s : State). withSlot x (x .slot .kind) s) (state-back (x .slot .state))
 
--- two answers of the slot question that are given as the same seven numbers are equal
+-- two answers of the slot question that are given as the same eight numbers are equal
 pub slot-same : (x y : slots.SlotAnswer) → slotNumbers x ≡ slotNumbers y → x ≡ y
 slot-same x y e = sym (slot-back x) ∙ ap slotOf e ∙ slot-back y

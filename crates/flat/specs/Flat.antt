@@ -13,9 +13,9 @@ use Rattle.flat.specs.declared.SlotAnswer.{SlotAnswer}
 use Rattle.flat.specs.declared.FileAnswer.{FileAnswer}
 use Rattle.flat.specs.declared.SizeAnswer.{SizeAnswer}
 
--- the answer that four numbers are
+-- the answer that five numbers are
 abbrev pub answerOf : Answer → layers.Answer
-answerOf a = record { number = a .number; tally = record { phases = a .phases; moves = a .moves; copies = a .copies } }
+answerOf a = record { number = a .number; place = a .place; tally = record { phases = a .phases; moves = a .moves; copies = a .copies } }
 
 -- the number of a kind: 1 user slot, 2 spare, 0 none
 unfoldable pub kindNumber : Kind → ℕ
@@ -39,11 +39,12 @@ rackNumber state.Unsettled = 0
 rackNumber (state.Away p) = p
 rackNumber state.None = 0
 
--- the seven numbers that the slot question's answer is
+-- the eight numbers that the slot question's answer is
 abbrev pub slotNumbers : slots.SlotAnswer → SlotAnswer
 slotNumbers found =
     record {
       number = found .answer .number;
+      place = found .answer .place;
       phases = found .answer .tally .phases;
       moves = found .answer .tally .moves;
       copies = found .answer .tally .copies;
@@ -52,21 +53,21 @@ slotNumbers found =
       rack = rackNumber (found .slot .state);
     }
 
--- the file reader's answer that eight numbers are
+-- the file reader's answer that nine numbers are
 abbrev pub fileOf : FileAnswer → jobfile.FileAnswer
 fileOf r =
     record {
-      answer = record { number = r .number; tally = record { phases = r .phases; moves = r .moves; copies = r .copies } };
+      answer = record { number = r .number; place = r .place; tally = record { phases = r .phases; moves = r .moves; copies = r .copies } };
       racks = r .racks;
       bytes = r .bytes;
       slots = r .slots;
       start = r .start;
     }
 
--- the answer of a call that writes bytes, which five numbers are
+-- the answer of a call that writes bytes, which six numbers are
 abbrev pub sizeOf : SizeAnswer → sizes.SizeAnswer
 sizeOf r =
     record {
-      answer = record { number = r .number; tally = record { phases = r .phases; moves = r .moves; copies = r .copies } };
+      answer = record { number = r .number; place = r .place; tally = record { phases = r .phases; moves = r .moves; copies = r .copies } };
       size = r .size;
     }

@@ -1,10 +1,11 @@
 // What C is given: the answers as structs of plain numbers.
 pub mod parts;
 
-// What every call gives: a number of the rules' list and the counts.
+// What every call gives: a number of the rules' list, the place that goes with it, and the counts.
 #[repr(C)]
 pub struct Answer {
     pub number: usize,
+    pub place: usize,
     pub phases: usize,
     pub moves: usize,
     pub copies: usize,
@@ -14,6 +15,7 @@ pub struct Answer {
 #[repr(C)]
 pub struct SlotAnswer {
     pub number: usize,
+    pub place: usize,
     pub phases: usize,
     pub moves: usize,
     pub copies: usize,
@@ -22,10 +24,11 @@ pub struct SlotAnswer {
     pub rack: usize,
 }
 
-// What the file reader gives: N, B, S and where the card bytes begin; all 0 on a refusal.
+// What the file reader gives: N, B, S and where the card bytes begin; all of these 0 on a refusal.
 #[repr(C)]
 pub struct FileAnswer {
     pub number: usize,
+    pub place: usize,
     pub phases: usize,
     pub moves: usize,
     pub copies: usize,
@@ -35,10 +38,11 @@ pub struct FileAnswer {
     pub start: usize,
 }
 
-// What a call gives that writes bytes into a lent buffer: the number, and how many bytes it wrote; 0 on a refusal.
+// What a call gives that writes bytes into a lent buffer: the number, its place, and how many bytes it wrote; 0 on a refusal.
 #[repr(C)]
 pub struct SizeAnswer {
     pub number: usize,
+    pub place: usize,
     pub phases: usize,
     pub moves: usize,
     pub copies: usize,

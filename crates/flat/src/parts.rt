@@ -8,12 +8,13 @@ use crate::SlotAnswer;
 use slots::Kind;
 use slots::State;
 
-// The number and the counts.
+// The number, its place and the counts.
 pub fn numbers_of(answer: answers::Answer) -> Answer
     ensures { λ r. ⌜ answerOf r ≡ answer ⌝ }
 {
     Answer {
         number: answer.number as usize,
+        place: answer.place,
         phases: answer.tally.phases,
         moves: answer.tally.moves,
         copies: answer.tally.copies,
@@ -66,6 +67,7 @@ pub fn slot_numbers(found: slots::SlotAnswer) -> SlotAnswer
     let state = slot.state;
     SlotAnswer {
         number: found.answer.number as usize,
+        place: found.answer.place,
         phases: found.answer.tally.phases,
         moves: found.answer.tally.moves,
         copies: found.answer.tally.copies,
@@ -81,6 +83,7 @@ pub fn file_numbers(found: parsing::FileAnswer) -> FileAnswer
 {
     FileAnswer {
         number: found.answer.number as usize,
+        place: found.answer.place,
         phases: found.answer.tally.phases,
         moves: found.answer.tally.moves,
         copies: found.answer.tally.copies,
@@ -97,6 +100,7 @@ pub fn size_numbers(found: answers::SizeAnswer) -> SizeAnswer
 {
     SizeAnswer {
         number: found.answer.number as usize,
+        place: found.answer.place,
         phases: found.answer.tally.phases,
         moves: found.answer.tally.moves,
         copies: found.answer.tally.copies,

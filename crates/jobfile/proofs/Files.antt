@@ -1,5 +1,5 @@
 -- Laws of the outcome of reading a file, by its number. Assumes nothing.
-use mathlib.Core.Path.{_≡_, ap, sym, _∙_}
+use mathlib.Core.Path.{_≡_, refl, ap, sym, _∙_}
 use mathlib.Core.Bool.{true}
 use mathlib.Core.List.{List, [], _∷_}
 use Prim.Native.Nat.{ℕ, _≤_, _<_}
@@ -13,12 +13,13 @@ use Rattle.counting.specs.Checks.{Check, first}
 use Rattle.counting.proofs.Tests.{or-l, or-r, or-none}
 use Rattle.counting.proofs.Checks.{first-here, first-later, first-none, first-append}
 use Rattle.racks.specs.Racks.{slots}
-use Rattle.answers.specs.Answers.{answer}
-use Rattle.parsing.specs.File.{readM, fileRacks, filePlaces, fileCards, fileChecks, readChecks, read}
+use Rattle.answers.specs.Answers.{placeless}
+use Rattle.answers.specs.declared.Refusal.{Refusal}
+use Rattle.parsing.specs.File.{readM, fileRacks, filePlaces, fileCards, fileChecks, entryPlace, refusalAt, fileRefusal, readChecks, read}
 use Rattle.parsing.specs.Answers.{refusedFile, doneFile, fileAnswer}
 use Rattle.parsing.specs.parts.Parsing.{Parsed}
 use Rattle.parsing.specs.declared.FileAnswer.{FileAnswer}
-use Rattle.parsing.proofs.Files.{sure-past, file-sure, answer-refused, answer-number}
+use Rattle.parsing.proofs.Files.{sure-past, file-sure, answer-refused, answer-number, placeless-file}
 use Rattle.jobfile.specs.Answers.{cardsOf, readOf}
 
 -- the outcome, by the answer
@@ -28,13 +29,13 @@ module _ (file caps places : List ℕ) where
   room-17 = (ltb (length caps) (length (fileRacks file)) or ltb (length places) (slots (fileRacks file)), 17)
 
   -- on a refusal nothing is written
-  read-refused : (n : ℕ) → n ≡ first (readChecks file caps places) → (n ≡ 0 → ⊥) → readOf (refusedFile n) caps places file ≡ read file caps places
-  unfolding read readOf cardsOf
+  read-refused : (n : ℕ) → n ≡ first (readChecks file caps places) → (n ≡ 0 → ⊥) → readOf (refusedFile (fileRefusal file n)) caps places file ≡ read file caps places
+  unfolding read readOf cardsOf fileRefusal refusalAt
   read-refused n e f = rw (← e, ne-eqb n 0 f)
 
   -- else both lists are written
   read-is : first (readChecks file caps places) ≡ 0 → readOf (doneFile file) (sets caps 0 (readM file .values)) (sets places 0 (filePlaces file)) file ≡ read file caps places
-  unfolding read readOf cardsOf fileCards
+  unfolding read readOf cardsOf fileCards fileRefusal refusalAt entryPlace
   read-is e = rw e
 
   -- where the file is done, 17 decides
@@ -68,15 +69,17 @@ module _ (file caps places : List ℕ) where
       slots-done : found .slots ≡ slots (fileRacks file)
       slots-done = ap (λ (r : FileAnswer). r .slots) found-done
 
-      read-17 : room-17 .0 ≡ true → readOf (refusedFile 17) caps places file ≡ read file caps places
-      read-17 h = read-refused 17 (sym (past-file done-number ∙ first-here _ 17 _ h)) (λ y. omega arith)
+      read-17 : room-17 .0 ≡ true → (found′ : FileAnswer) (x : Refusal) → found′ ≡ refusedFile x → x ≡ placeless 17 → readOf found′ caps places file ≡ read file caps places
+      read-17 h found′ x e ex =
+          ap (λ (r : FileAnswer). readOf r caps places file) (e ∙ ap refusedFile (ex ∙ placeless-file file 17 (refl, refl)))
+          ∙ read-refused 17 (sym (past-file done-number ∙ first-here _ 17 _ h)) (λ y. omega arith)
 
       -- 17: room for capacities below N
-      pub read-17-caps : length caps < found .racks → readOf (refusedFile 17) caps places file ≡ read file caps places
+      pub read-17-caps : length caps < found .racks → (found′ : FileAnswer) (x : Refusal) → found′ ≡ refusedFile x → x ≡ placeless 17 → readOf found′ caps places file ≡ read file caps places
       read-17-caps l = read-17 (or-l _ (lt-ltb (length caps) (length (fileRacks file)) (omega (arith, racks-done))))
 
       -- 17: room for places below S
-      pub read-17-places : length places < found .slots → readOf (refusedFile 17) caps places file ≡ read file caps places
+      pub read-17-places : length places < found .slots → (found′ : FileAnswer) (x : Refusal) → found′ ≡ refusedFile x → x ≡ placeless 17 → readOf found′ caps places file ≡ read file caps places
       read-17-places l = read-17 (or-r (ltb (length caps) (length (fileRacks file))) (lt-ltb (length places) (slots (fileRacks file)) (omega (arith, slots-done))))
 
       -- 0: both lists are written from the front

@@ -12,11 +12,12 @@ use lib.Seq.{sets}
 use borrow.Author.Tests.{eq-eqb, ne-eqb, eqb-false, lt-ltb, le-ltb}
 use Rattle.counting.specs.Tests.{bit}
 use Rattle.counting.specs.Lists.{join, each}
-use Rattle.counting.specs.Checks.{Check, first, refusal}
+use Rattle.counting.specs.Checks.{Check, first, known}
 use Rattle.counting.proofs.Tests.{or-off-l, bit-le}
-use Rattle.counting.proofs.Checks.{first-here, first-later, first-none, first-off, refusal-here, refusal-past, refusal-none}
+use Rattle.counting.proofs.Checks.{first-here, first-later, first-none, first-off, known-past, known-none}
 use Rattle.counting.proofs.Lists.{length-each, getD-each}
-use Rattle.answers.specs.Answers.{sized}
+use Rattle.answers.specs.Answers.{placeless, sized}
+use Rattle.answers.specs.declared.Refusal.{Refusal}
 use Rattle.racks.specs.Limits.{FREE}
 use Rattle.racks.specs.Racks.{Rack, ofCaps, rackAt, users, base, slots, spareOf}
 use Rattle.racks.specs.Table.{dest}
@@ -29,8 +30,9 @@ use Rattle.racks.proofs.Jobs.{sound-racks}
 use Rattle.racks.proofs.Passing.{At, at-bounds}
 use Rattle.racks.proofs.Table.{read-dest}
 use Rattle.racks.proofs.LegalTable.{legal-slot, spare-lt}
-use Rattle.tables.specs.parts.Tables.{OpenCards, cardsNumber}
-use Rattle.tables.proofs.Tables.{cards-racks, same-racks, of-card-checks}
+use Rattle.tables.specs.parts.Tables.{OpenCards, refusalBy, cardsNumber}
+use Rattle.tables.proofs.Refusals.{placeless-by}
+use Rattle.tables.proofs.Tables.{cards-racks, same-racks, of-card-refusal}
 use Rattle.jobwriter.specs.Writing.{numeralOf, numeralsOf, fileEntry, capOf, fileNumbers, fileFor, writeChecks, filed}
 use Rattle.jobwriter.specs.parts.Puts.{Short, Put, Roomy, Writable, writeNumber, filedBy}
 use Rattle.jobwriter.proofs.Puts.{one-group, numeral-length, put-then, numerals-append, all-few}
@@ -227,13 +229,8 @@ module _ {job : Job} {b : ℕ} {places : List ℕ} (o : Writable job b places) (
       unfolding fileFor
       file-put = all .stored cards (some)
 
--- the number of the writer
+-- the refusal of the writer
 module _ (job : Job) (b : ℕ) (places cards lent : List ℕ) where
-  -- refused by the table and its cards
-  pub write-table : (n : ℕ) → n ≡ cardsNumber job b places cards → (n ≡ 0 → ⊥) → n ≡ writeNumber job b places cards lent
-  unfolding writeNumber
-  write-table n e f = e ∙ sym (refusal-here (cardsNumber job b places cards) _ (λ z. f (e ∙ z)))
-
   -- accepted, with so many bytes of numbers
   module _ (z : cardsNumber job b places cards ≡ 0) (n : ℕ) (is : n ≡ length (numeralsOf (fileNumbers (racksOf job) b places))) where
     -- the file's length
@@ -242,21 +239,28 @@ module _ (job : Job) (b : ℕ) (places cards lent : List ℕ) where
     file-size = omega (arith, is, length-append (numeralsOf (fileNumbers (racksOf job) b places)) cards)
 
     -- the buffer is too short
-    pub write-19 : length lent < n + length cards → 19 ≡ writeNumber job b places cards lent
+    pub write-19 : length lent < n + length cards → placeless 19 ≡ refusalBy job places (writeNumber job b places cards lent)
     unfolding writeNumber tooShort
-    write-19 h = sym (refusal-past (cardsNumber job b places cards) _ z ∙ first-here _ 19 [] (lt-ltb (length lent) (length (fileFor (racksOf job) b places cards)) (omega (arith, file-size))))
+    write-19 h =
+        placeless-by job places 19 _ (refl, refl)
+        (sym (known-past (cardsNumber job b places cards) _ z ∙ first-here _ 19 [] (lt-ltb (length lent) (length (fileFor (racksOf job) b places cards)) (omega (arith, file-size)))))
 
     -- it is not
-    pub write-none : n + length cards ≤ length lent → writeNumber job b places cards lent ≡ 0
+    pub write-none : n + length cards ≤ length lent → placeless 0 ≡ refusalBy job places (writeNumber job b places cards lent)
     unfolding writeNumber tooShort
-    write-none h = refusal-past (cardsNumber job b places cards) _ z ∙ first-later _ 19 [] (le-ltb (length lent) (length (fileFor (racksOf job) b places cards)) (omega (arith, file-size))) ∙ first-none
+    write-none h =
+        placeless-by job places 0 _ (refl, refl)
+        (sym
+        (known-past (cardsNumber job b places cards) _ z
+        ∙ first-later _ 19 [] (le-ltb (length lent) (length (fileFor (racksOf job) b places cards)) (omega (arith, file-size)))
+        ∙ first-none))
 
 -- a job made from capacities gives their file
 pub filed-by : (caps : List ℕ) (job : Job) → job ≡ jobOf (ofCaps caps) → (b : ℕ) (places cards lent : List ℕ) → filedBy job b places cards lent ≡ filed (ofCaps caps) b places cards lent
-unfolding filedBy writeNumber filed writeChecks
+unfolding filedBy writeNumber filed writeChecks refusalBy
 filed-by caps job is b places cards lent =
     let rest : List Rack → List Check = λ (r : List Rack). (tooShort lent (fileFor r b places cards), 19) ∷ [] in
-    let n : ℕ = first (refusal (cardsNumber job b places cards) ∷ rest (racksOf job)) in
-    let z : n ≡ 0 → job .refused ≡ 0 = λ e. cards-racks job b places cards (refusal-none (cardsNumber job b places cards) (rest (racksOf job)) e) in
+    let n : ℕ = first (known (cardsNumber job b places cards) ∷ rest (racksOf job)) in
+    let z : n ≡ 0 → job .refused ≡ 0 = λ e. cards-racks job b places cards (known-none (cardsNumber job b places cards) (rest (racksOf job)) e) in
     rw (same-racks caps job is n z (λ (r : List Rack). length (fileFor r b places cards)) 0, same-racks caps job is n z (λ (r : List Rack). sets lent 0 (fileFor r b places cards)) lent)
-    (ap (λ (m : ℕ). sized m (fileFor (ofCaps caps) b places cards) lent) (of-card-checks caps job is b places cards rest))
+    (ap (λ (x : Refusal). sized x (fileFor (ofCaps caps) b places cards) lent) (of-card-refusal caps job is b places cards rest))

@@ -9,7 +9,7 @@ use Rattle.counting.specs.Lists.{each, join}
 use Rattle.counting.specs.Checks.{Check, first}
 use Rattle.racks.specs.Limits.{FREE}
 use Rattle.racks.specs.Racks.{Rack, ofCaps}
-use Rattle.racks.specs.Numbers.{cardChecks, tooShort}
+use Rattle.racks.specs.Numbers.{cardChecks, tooShort, refusalIn}
 use Rattle.answers.specs.Answers.{Sized, sized, sizedOf}
 use Rattle.answers.specs.declared.SizeAnswer.{SizeAnswer}
 
@@ -48,7 +48,8 @@ writeChecks racks b places cards lent = cardChecks racks b places cards ++ (tooS
 
 -- **Write file.** The file from the front of the lent buffer, and its length; all else there is unchanged
 unfoldable pub filed : List Rack → ℕ → List ℕ → List ℕ → List ℕ → Sized
-filed racks b places cards lent = sized (first (writeChecks racks b places cards lent)) (fileFor racks b places cards) lent
+filed racks b places cards lent =
+    sized (refusalIn racks places (first (writeChecks racks b places cards lent))) (fileFor racks b places cards) lent
 
 -- the contract of `write_file`: what it gives, and the lent buffer at exit
 abbrev pub WriteFile : List ℕ → ℕ → List ℕ → List ℕ → List ℕ → SizeAnswer → List ℕ → Type 0

@@ -126,9 +126,9 @@ pub fn write_job(job: Job, b: usize, places: &[u16], cards: &[u8], out: &mut [u8
     ensures { λ r. ⌜ sizedOf r (now (out .exit)) ≡ filedBy job b (now (places .entry)) (now (cards .entry)) (now (out .entry)) ⌝ }
 {
     let mut racking = [0u8; Job::MAX_SLOTS];
-    let number = tables::parts::cards_number(job, b, places, cards, &mut racking);
-    if number != 0 {
-        let answer = Answer::of(number);
+    let refusal = tables::parts::cards_refusal(job, b, places, cards, &mut racking);
+    if refusal.number != 0 {
+        let answer = Answer::refused(refusal);
         return SizeAnswer { answer, size: 0 };
     }
     let size = numbers_size(job, b, places) + cards.len();

@@ -12,7 +12,7 @@ use Rattle.counting.specs.Checks.{first}
 use Rattle.counting.proofs.Checks.{first-here, first-later, first-off, first-none}
 use Rattle.racks.specs.Racks.{ofCaps, slots}
 use Rattle.racks.specs.Numbers.{cardChecks, tooShort}
-use Rattle.answers.specs.Answers.{answer, noCounts, Sized, sizedOf}
+use Rattle.answers.specs.Answers.{placeless, answer, noCounts, Sized, sizedOf}
 use Rattle.racks.proofs.LegalTable.{spared-caps}
 use Rattle.moves.specs.Moves.{held}
 use Rattle.counting.proofs.Stores.{take-front}
@@ -81,7 +81,7 @@ module _ (file : List ℕ) where
   listing-room out h = omega (arith, listing-enough)
 
   -- and the call then gives 0 and writes all of it
-  pub printed-enough : (lent : List ℕ) → ENOUGH ≤ length lent → printed file lent ≡ record { answer = answer 0 noCounts; size = length (listing file); lent = sets lent 0 (listing file) }
+  pub printed-enough : (lent : List ℕ) → ENOUGH ≤ length lent → printed file lent ≡ record { answer = answer (placeless 0) noCounts; size = length (listing file); lent = sets lent 0 (listing file) }
   unfolding printed handedOver tooShort
   printed-enough lent h =
       let s : length (listing file) ≤ length lent = omega (arith, listing-enough) in

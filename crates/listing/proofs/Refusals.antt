@@ -5,7 +5,7 @@ use native.Mathlib.Omega.{arith}
 use lib.Dec.{eqb, leb}
 use lib.ListN.{length, getD}
 use Rattle.counting.specs.Tests.{_and_}
-use Rattle.counting.specs.Checks.{Check, first, refusal, done}
+use Rattle.counting.specs.Checks.{Check, first, known, done}
 use Rattle.counting.proofs.Tests.{by-test}
 use Rattle.counting.specs.Every.{All}
 use Rattle.counting.specs.Every.All.{none, more}
@@ -41,7 +41,7 @@ unfolding numerals numeral
 numbers-most bad few zero file at before = omega arith
 numbers-most bad few (suc n) file at before =
     let x = groups 3 file at 0 1 in
-    let cs = refusal (x .number) ∷ refusal (bad before (x .value)) ∷ [] in
+    let cs = known (x .number) ∷ known (bad before (x .value)) ∷ [] in
     by-test (done (first cs)) (λ e. rw e (numbers-most bad few n file (x .next) (before ++ x .value ∷ [])))
     (λ e. rw e (first-most 20 {cs = cs} (more (groups-most 3 file at 0 1) (more (few before (x .value)) none))))
 

@@ -7,7 +7,7 @@ use lib.ListN.{length}
 use Rattle.counting.specs.Tests.{pick}
 use Rattle.counting.specs.Checks.{Check, first, done}
 use Rattle.racks.specs.Numbers.{tooShort}
-use Rattle.answers.specs.Answers.{Sized, sized, sizedOf}
+use Rattle.answers.specs.Answers.{placeless, Sized, sized, sizedOf}
 use Rattle.answers.specs.declared.SizeAnswer.{SizeAnswer}
 use Rattle.moves.specs.Moves.{Held}
 use Rattle.parsing.specs.File.{fileRacks, fileBytes, filePlaces, fileCards, fileChecks}
@@ -35,7 +35,7 @@ ENOUGH = 245818
 
 -- a text put into a lent buffer; 13 where that is too short for it
 unfoldable pub handedOver : List ℕ → List ℕ → Sized
-handedOver out lent = sized (first ((tooShort lent out, 13) ∷ [])) out lent
+handedOver out lent = sized (placeless (first ((tooShort lent out, 13) ∷ []))) out lent
 
 -- **The listing as a call.** A text that says `refused` is written like any other
 unfoldable pub printed : List ℕ → List ℕ → Sized

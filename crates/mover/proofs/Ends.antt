@@ -1,5 +1,5 @@
 -- The numbers 7 to 11 of a move, by the tests that the code makes; and the allowed moves are those that get none. Assumes nothing.
-use mathlib.Core.Path.{_≡_, ap, sym, _∙_}
+use mathlib.Core.Path.{_≡_, refl, ap, sym, _∙_}
 use mathlib.Core.Bool.{false, not}
 use mathlib.Core.List.{List, [], _∷_}
 use Prim.Native.Nat.{ℕ, _≤_, _<_}
@@ -9,16 +9,24 @@ use Rattle.counting.specs.Tests.{_or_}
 use Rattle.counting.specs.Lists.{Pair}
 use Rattle.counting.specs.Checks.{first}
 use Rattle.counting.proofs.Tests.{or-l, or-r, or-none, or-off-l, or-off-r, no-way, not-off, not-off-is}
-use Rattle.counting.proofs.Checks.{first-here, first-later, first-none, first-off}
+use Rattle.counting.proofs.Checks.{first-here, first-later, first-none, first-off, first-of, first-end}
 use Rattle.racks.specs.Limits.{FREE}
 use Rattle.racks.specs.Racks.{Rack, slots, rackOf}
 use Rattle.racks.specs.Table.{dest, free, rackTo, onRack}
 use Rattle.racks.specs.Numbers.{noSlot, sourceFree, sourceHome, elsewhere, targetTaken}
+use Rattle.racks.proofs.Places.{NoPlace}
 use Rattle.racks.proofs.Away.{away-held, away-off, away-is}
 use Rattle.plans.specs.Allowed.{Allowed}
 use Rattle.moves.specs.Moves.{endChecks}
 
 module _ (racks : List Rack) (places : List ℕ) (m : Pair) where
+  -- none of them has a place
+  pub ends-placeless : NoPlace (first (endChecks racks places m))
+  unfolding endChecks
+  ends-placeless =
+      first-of NoPlace _ 7 _ (λ _. (refl, refl)) (first-of NoPlace _ 8 _ (λ _. (refl, refl)) (first-of NoPlace _ 9 _ (λ _. (refl, refl))
+      (first-of NoPlace _ 10 _ (λ _. (refl, refl)) (first-of NoPlace _ 11 [] (λ _. (refl, refl)) (first-end NoPlace (refl, refl))))))
+
   pub ends-7-from : slots racks ≤ m .0 → 7 ≡ first (endChecks racks places m)
   unfolding endChecks noSlot
   ends-7-from h = sym (first-here _ 7 _ (or-l _ (le-leb (slots racks) (m .0) h)))

@@ -1,13 +1,14 @@
-// One move: its number, and the move made.
+// One move: its refusal, and the move made.
 ghost use mathlib.Core.Path.{_≡_};
 ghost use lib.ListN.{length};
 ghost use Rattle.counting.specs.Checks.{first};
-ghost use Rattle.answers.specs.Answers.{movesOf, answer};
+ghost use Rattle.answers.specs.Answers.{placeless, movesOf, answer};
 ghost use Rattle.racks.specs.Job.{racksOf, Fit};
 ghost use Rattle.tables.specs.parts.Tables.{Open};
 ghost use Rattle.moves.specs.Moves.{endChecks, held, outcomeOf};
 ghost use Rattle.mover.specs.parts.Moving.{movedBy, MoveChecked};
 use answers::Answer;
+use answers::Refusal;
 use answers::Tally;
 use racks::Job;
 
@@ -45,22 +46,23 @@ pub fn ends_number(
     0
 }
 
-// The number of a move: 1 to 6 for the table and its cards, then 7 to 11.
-fn move_number(job: Job, b: usize, places: &[u16], cards: &[u8], from: usize, to: usize) -> u8
+// The refusal of a move: 1 to 6 for the table and its cards, then 7 to 11.
+fn move_refusal(job: Job, b: usize, places: &[u16], cards: &[u8], from: usize, to: usize) -> Refusal
     requires { ⌜ Fit job ⌝ }
     ensures { λ r. ⌜ MoveChecked job b (held (now (places .entry)) (now (cards .entry))) (from, to) r ⌝ }
 {
     let mut racking = [0u8; Job::MAX_SLOTS];
-    let number = tables::parts::cards_number(job, b, places, cards, &mut racking);
-    if number != 0 {
-        return number;
+    let refusal = tables::parts::cards_refusal(job, b, places, cards, &mut racking);
+    if refusal.number != 0 {
+        return refusal;
     }
-    ends_number(job, places, &racking, from, to)
+    let number = ends_number(job, places, &racking, from, to);
+    Refusal::of(number)
 }
 
 // Done, with one move made.
 fn one_made() -> Answer
-    ensures { λ r. ⌜ r ≡ answer 0 (movesOf 1) ⌝ }
+    ensures { λ r. ⌜ r ≡ answer (placeless 0) (movesOf 1) ⌝ }
 {
     let none = Tally::none();
     let tally = none.add_move();
@@ -79,9 +81,9 @@ pub fn move_job(
     requires { ⌜ Fit job ⌝ }
     ensures { λ r. ⌜ outcomeOf r (now (places .exit)) (now (cards .exit)) ≡ movedBy job b (held (now (places .entry)) (now (cards .entry))) (from, to) ⌝ }
 {
-    let number = move_number(job, b, places, cards, from, to);
-    if number != 0 {
-        return Answer::of(number);
+    let refusal = move_refusal(job, b, places, cards, from, to);
+    if refusal.number != 0 {
+        return Answer::refused(refusal);
     }
     carrying::parts::move_card(places, cards, b, from, to);
     one_made()

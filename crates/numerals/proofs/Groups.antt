@@ -10,7 +10,7 @@ use lib.Dec.{leb, eqb}
 use lib.ListN.{length, getD}
 use borrow.Author.Tests.{eq-eqb, ne-eqb, le-leb, lt-leb}
 use Rattle.counting.specs.Tests.{_and_, pick}
-use Rattle.counting.proofs.Tests.{and-off-l, and-off-r, both}
+use Rattle.counting.proofs.Tests.{by-test, and-off-l, and-off-r, both}
 use Rattle.numerals.specs.Numeral.{Got, refused, groups, lastGroup}
 
 -- the last group, by the tests that the code makes
@@ -95,3 +95,13 @@ next-some (suc more) file at value weight e = go (leb (length file) at) (leb 128
     go false true d g h f l e = f e
     go false false true g h f l e = absurd (omega arith)
     go false false false g h f l e = l
+
+-- what holds of 0, 14, 15 and 20 holds of a numeral's number
+pub groups-number : (P : ℕ → Type 0) → P 0 → P 14 → P 15 → P 20 → (left : ℕ) (file : List ℕ) (at value weight : ℕ) → P (groups left file at value weight .number)
+unfolding groups lastGroup
+groups-number P z p q r zero file at value weight = r
+groups-number P z p q r (suc left) file at value weight =
+    let x = getD file at 0 in
+    by-test (leb (length file) at) (λ e. rw e q) (λ e. by-test (leb 128 x)
+    (λ f. rw (e, f) (groups-number P z p q r left file (suc at) (value + (x - 128) * weight) (weight * 128)))
+    (λ f. by-test (eqb x 0 and not (eqb weight 1)) (λ g. rw (e, f, g) p) (λ g. rw (e, f, g) z)))

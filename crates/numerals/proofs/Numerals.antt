@@ -1,21 +1,22 @@
 -- Laws of numerals read and checked one after another. Assumes nothing.
-use mathlib.Core.Path.{_≡_, ap, sym, _∙_}
+use mathlib.Core.Path.{_≡_, refl, ap, sym, _∙_}
 use mathlib.Core.Bool.{true, false, not}
 use mathlib.Core.List.{List, [], _∷_, _++_}
-use Prim.Native.Nat.{ℕ, suc, _<_, _≤_}
+use Prim.Native.Nat.{ℕ, zero, suc, _+_, _<_, _≤_}
 use native.Mathlib.Omega.{arith}
+use native.Mathlib.Nat.{suc-add}
 use native.Mathlib.Decide.{ℕ-discrete, decLe}
 use lib.Dec.{ltb}
 use borrow.Author.Tests.{ne-eqb, eqb-true, eqb-false, lt-ltb, le-ltb}
-use Rattle.counting.specs.Checks.{first, refusal, done}
+use Rattle.counting.specs.Checks.{first, known, done}
 use Rattle.counting.proofs.Tests.{by-test, or-l, or-r, or-none}
-use Rattle.counting.proofs.Checks.{first-here, first-later, first-none}
+use Rattle.counting.proofs.Checks.{first-here, first-later, first-none, first-of}
 use Rattle.numerals.specs.Numeral.{Got, refused, numeral, Numerals, numerals}
 use Rattle.numerals.specs.Numeral.{gotOf}
 use Rattle.numerals.specs.parts.Bounds.{checkedNumeral, outside}
 use Rattle.numerals.specs.declared.Numeral.{Numeral}
 use Rattle.numerals.specs.declared.Numeral.the-variants.{Value, Refused}
-use Rattle.numerals.proofs.Groups.{next-some}
+use Rattle.numerals.proofs.Groups.{next-some, groups-number}
 
 -- a numeral read, its value and the position behind it
 abbrev pub got : ℕ → ℕ → Got
@@ -41,13 +42,13 @@ refused-got r x n g e k h = ap refused (k ∙ ap (λ (q : Numeral). gotOf q .num
 
 -- two refusals in their order
 abbrev pub either : ℕ → ℕ → ℕ
-either a b = first (refusal a ∷ refusal b ∷ [])
+either a b = first (known a ∷ known b ∷ [])
 
 either-l : (a b : ℕ) → (a ≡ 0 → ⊥) → either a b ≡ a
 either-l a b f = first-here _ a _ (ap not (ne-eqb a 0 f))
 
 -- a refusal alone
-pub alone : (b : ℕ) → first (refusal b ∷ []) ≡ b
+pub alone : (b : ℕ) → first (known b ∷ []) ≡ b
 unfolding first
 alone b = elim (ℕ-discrete b 0) [ yes e ↦ rw e | no f ↦ rw (ne-eqb b 0 f) ]
 
@@ -175,3 +176,26 @@ module _ (low high n x : ℕ) where
     elim (decLe low x) [ yes l ↦ l | no l ↦ absurd (omega (arith, outside-low (omega arith))) ],
     elim (decLe x high) [ yes l ↦ l | no l ↦ absurd (omega (arith, outside-high (omega arith))) ],
   )
+
+-- what holds of 0, 14, 15, 20 and of what `bad` gives holds of the number of numerals
+pub numerals-number : (P : ℕ → Type 0) → P 0 → P 14 → P 15 → P 20 → (bad : List ℕ → ℕ → ℕ) → ((before : List ℕ) (x : ℕ) → P (bad before x))
+    → (n : ℕ) (file : List ℕ) (at : ℕ) (before : List ℕ) → P (numerals bad n file at before .number)
+unfolding numerals numeral
+numerals-number P z p q r bad h zero file at before = z
+numerals-number P z p q r bad h (suc n) file at before =
+    let x = numeral file at in
+    let no = either (x .number) (bad before (x .value)) in
+    by-test (done no)
+    (λ t. rw t (numerals-number P z p q r bad h n file (x .next) (before ++ x .value ∷ [])))
+    (λ t. rw t (first-of P _ (x .number) _ (λ _. groups-number P z p q r 3 file at 0 1) (rw (alone (bad before (x .value))) (h before (x .value)))))
+
+-- numerals that are refused are refused alike with more behind them
+pub numerals-longer : (bad : List ℕ → ℕ → ℕ) (n m : ℕ) (file : List ℕ) (at : ℕ) (before : List ℕ) → (numerals bad n file at before .number ≡ 0 → ⊥)
+    → numerals bad (n + m) file at before .number ≡ numerals bad n file at before .number
+unfolding numerals
+numerals-longer bad zero m file at before f = absurd (f refl)
+numerals-longer bad (suc n) m file at before f =
+    let x = numeral file at in
+    by-test (done (either (x .number) (bad before (x .value))))
+    (λ t. rw (suc-add, t) (numerals-longer bad n m file (x .next) (before ++ x .value ∷ []) (λ e. f (rw t e))))
+    (λ t. rw (suc-add, t))

@@ -5,11 +5,11 @@ use Prim.Native.Nat.{ℕ, zero, suc, _+_, _-_, _*_}
 use lib.Dec.{eqb, leb}
 use lib.ListN.{length, getD}
 use Rattle.counting.specs.Tests.{_and_, pick}
-use Rattle.counting.specs.Checks.{first, refusal, done}
+use Rattle.counting.specs.Checks.{first, known, done}
 use Rattle.numerals.specs.declared.Numeral.{Numeral}
 use Rattle.numerals.specs.declared.Numeral.the-variants.{Value, Refused}
 
--- a numeral read: 0 or its refusal, its value, and the position behind it
+-- a numeral read: 0 or the number that it is refused with, its value, and the position behind it
 pub record Got : Type 0 where
   pub number : ℕ
   pub value : ℕ
@@ -36,7 +36,7 @@ groups (suc more) file at value weight =
 unfoldable pub numeral : List ℕ → ℕ → Got
 numeral file at = groups 3 file at 0 1
 
--- numerals read one after another: 0 or the refusal, their values, and the position behind them
+-- numerals read one after another: 0 or the number that they are refused with, their values, and the position behind them
 pub record Numerals : Type 0 where
   pub number : ℕ
   pub values : List ℕ
@@ -47,7 +47,7 @@ unfoldable pub numerals : (List ℕ → ℕ → ℕ) → ℕ → List ℕ → �
 numerals bad zero file at before = record { number = 0; values = before; next = at }
 numerals bad (suc n) file at before =
     let x = numeral file at in
-    let no = first (refusal (x .number) ∷ refusal (bad before (x .value)) ∷ []) in
+    let no = first (known (x .number) ∷ known (bad before (x .value)) ∷ []) in
     pick (done no) (numerals bad n file (x .next) (before ++ x .value ∷ [])) (record { number = no; values = []; next = 0 })
 
 -- the rules' number, the value and the position for each case of `Numeral`

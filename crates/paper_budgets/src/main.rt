@@ -1,4 +1,4 @@
-// Cases 2 and 9 through the call of budgeted moves, with the refusals of B.
+// Cases 2 and 9 through the call of budgeted moves, with the refusals of B and of a table.
 use racks::Job;
 use saying::parts::say_left;
 
@@ -42,6 +42,19 @@ fn budget_two(name: &[u8], b: usize, cards: &mut [u8]) {
     say_budget(name, &caps, b, &mut places, cards, 2);
 }
 
+// A table that is refused, whatever k is.
+fn budget_bad() {
+    let mut places = [2u16, Job::FREE, 0, 1];
+    say_budget(
+        b"a spare named by the last slot",
+        &[1, 1],
+        1,
+        &mut places,
+        &mut [65, 0, 66, 67],
+        0,
+    );
+}
+
 // B 256 is accepted, 257 and 0 are not.
 fn sizes() {
     budget_two(b"B 256", 256, &mut [1; 1024]);
@@ -52,5 +65,6 @@ fn sizes() {
 fn main() {
     budgets_in_turn();
     budget_anew();
+    budget_bad();
     sizes();
 }

@@ -91,6 +91,31 @@ fn refusals() {
     say_check(b"65 racks and one too large", &[1024u16; 65], &places);
 }
 
+// Several bad and several doubled entries: the lowest bad one, and the lowest that repeats an earlier one.
+fn lowest_places() {
+    let caps = [2u16, 2, 1];
+    say_check(
+        b"three bad entries",
+        &caps,
+        &[0, Job::FREE, 7, 5, 6, Job::FREE, 8, Job::FREE],
+    );
+    say_check(
+        b"three that name slot 3",
+        &caps,
+        &[Job::FREE, 3, 1, Job::FREE, 3, Job::FREE, 3, Job::FREE],
+    );
+    say_check(
+        b"two slots named twice",
+        &caps,
+        &[6, 0, 4, 4, Job::FREE, Job::FREE, Job::FREE, 6],
+    );
+    say_check(
+        b"the last entry bad",
+        &caps,
+        &[3, 4, Job::FREE, 0, 6, Job::FREE, 1, 2],
+    );
+}
+
 fn questions() {
     let one = [2u16];
     let settled = [0u16, Job::FREE, 1];
@@ -115,5 +140,6 @@ fn questions() {
 fn main() {
     full_house();
     refusals();
+    lowest_places();
     questions();
 }

@@ -95,7 +95,7 @@ fn case_1() {
     );
 }
 
-// Case 1 with a byte left over and with two entries that name one slot, and more slots than there is room for.
+// Case 1 with a byte left over, with bad entries and with entries that name one slot, and more slots than there is room for.
 fn refusals() {
     start(
         b"case 1, a byte left over: ",
@@ -104,6 +104,18 @@ fn refusals() {
     start(
         b"case 1, slot 3 named twice: ",
         b"\x03\x01\x02\x02\x01\x04\x04\x00\x01\x07\x00\x02\x00\x41\x42\x00\x43\x44\x00\x45\x00",
+    );
+    start(
+        b"case 1, entries 1 and 3 bad: ",
+        b"\x03\x01\x02\x02\x01\x04\x06\x00\x09\x07\x00\x02\x00\x41\x42\x00\x43\x44\x00\x45\x00",
+    );
+    start(
+        b"case 1, entry 2 above all slots: ",
+        b"\x03\x01\x02\x02\x01\x04\x05\x81\x20\x09\x07\x00\x02\x00\x41\x42\x00\x43\x44\x00\x45\x00",
+    );
+    start(
+        b"case 1, slot 3 named three times: ",
+        b"\x03\x01\x02\x02\x01\x04\x05\x00\x04\x07\x00\x04\x00\x41\x42\x00\x43\x44\x00\x45\x00",
     );
     start(
         b"ten user slots: ",

@@ -39,7 +39,7 @@ pub fn say_job(
     io::print_decimal(1, bytes as u64);
     io::write_all(1, b" S ");
     io::print_decimal(1, slots as u64);
-    io::write_all(1, b" at ");
+    io::write_all(1, b" start ");
     io::print_decimal(1, start as u64);
     saying::parts::say_cards(cards);
 }

@@ -1,4 +1,4 @@
-// Case 6 through the call that moves one card, with the refusals of its slots and of B.
+// Case 6 through the call that moves one card, with the refusals of its slots, of a table and of B.
 use racks::Job;
 use saying::parts::say_left;
 
@@ -55,6 +55,13 @@ fn other_moves() {
         2,
     );
     move_two(b"cards too long", &mut fresh, &mut [0; 5], 3, 0);
+    move_two(
+        b"a slot named twice, and no slot 9",
+        &mut [2, Job::FREE, 2, Job::FREE],
+        &mut [65, 9, 65, 9],
+        9,
+        0,
+    );
 }
 
 fn size_first() {

@@ -34,6 +34,7 @@ fn plans_of_two() {
     plan_two(b"plan of case 5", &[2, 0, Job::FREE, Job::FREE]);
     plan_two(b"a spare holds a card", &[Job::FREE, 2, Job::FREE, 0]);
     plan_two(b"a bad table to plan", &[3, Job::FREE, 0, Job::FREE]);
+    plan_two(b"a slot named twice to plan", &[2, Job::FREE, 2, Job::FREE]);
 }
 
 // Plans with nothing away, with a rack of none; refused.

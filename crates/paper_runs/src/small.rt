@@ -114,6 +114,13 @@ fn shuffles() {
         &mut [65, 66, 9, 9],
     );
     say_shuffle(
+        b"shuffle of a table whose entry 1 is bad",
+        &[2],
+        1,
+        &mut [1, 2, Job::FREE],
+        &mut [65, 66, 9],
+    );
+    say_shuffle(
         b"shuffle of case 3, B 0",
         &[2],
         0,
@@ -146,7 +153,7 @@ fn whole_runs() {
     );
 }
 
-// A run with nothing away, the smallest job, and a refusal.
+// A run with nothing away, the smallest job, and refusals.
 fn run_edges() {
     say_run(
         b"run of case 3",
@@ -156,6 +163,13 @@ fn run_edges() {
         &mut [65, 66, 9],
     );
     say_run(b"run of case 10", &[0], 1, &mut [Job::FREE], &mut [9]);
+    say_run(
+        b"run of a table whose entry 2 repeats",
+        &[1, 1],
+        1,
+        &mut [2, Job::FREE, 2, Job::FREE],
+        &mut [65, 9, 66, 9],
+    );
     say_run(
         b"run of case 4, cards too short",
         &[1, 1],

@@ -1,4 +1,4 @@
--- Laws of the whole file: its number, by the parts that are read in their order, and the outcome. Assumes nothing.
+-- Laws of the whole file: its number and place, by the parts that are read in their order, and the outcome. Assumes nothing.
 use mathlib.Core.Path.{_≡_, refl, ap, sym, _∙_, subst}
 use mathlib.Core.Bool.{Bool, true, not}
 use mathlib.Core.List.{List, [], _∷_, _++_}
@@ -7,26 +7,29 @@ use native.Mathlib.Omega.{arith}
 use native.Mathlib.Nat.{mul-le-mul}
 use native.Mathlib.Decide.{ℕ-discrete}
 use lib.Dec.{eqb, ltb}
-use lib.ListN.{length, take}
+use lib.ListN.{length, getD, take}
 use borrow.Author.Tests.{eq-eqb, ne-eqb}
 use Rattle.counting.specs.Tests.{pick}
 use Rattle.counting.specs.Lists.{each}
 use Rattle.counting.specs.Checks.{Check, first}
 use Rattle.counting.proofs.Tests.{by-test, not-on, no-way}
-use Rattle.counting.proofs.Checks.{first-here, first-later, first-append}
+use Rattle.counting.proofs.Checks.{first-here, first-later, first-append, first-of, first-end}
 use Rattle.racks.specs.Racks.{ofCaps, slots}
 use Rattle.racks.specs.Job.{racksOf, jobOf, goodJob, Sound}
-use Rattle.answers.specs.Answers.{answer, noCounts}
+use Rattle.answers.specs.Answers.{placeless, answer, noCounts}
+use Rattle.answers.specs.declared.Refusal.{Refusal}
 use Rattle.racks.specs.declared.Job.{Job}
 use Rattle.answers.specs.declared.Answer.{Answer}
+use Rattle.racks.proofs.Places.{NoPlace, placeless-alone}
 use Rattle.racks.proofs.Caps.{slots-small}
 use Rattle.racks.proofs.Jobs.{job-good, caps-again, caps-sound}
-use Rattle.numerals.specs.Numeral.{Numerals}
-use Rattle.parsing.specs.File.{entryOf, readN, readB, readM, readEntries, fileRacks, fileBytes, filePlaces, fileCards, fileChecks}
+use Rattle.numerals.specs.Numeral.{Numerals, numerals}
+use Rattle.numerals.proofs.Numerals.{numerals-number}
+use Rattle.parsing.specs.File.{wrongN, wrongB, wrongM, entryOf, readN, readB, readM, readEntries, fileRacks, fileBytes, filePlaces, fileCards, fileChecks, entryPlace, refusalAt, fileRefusal}
 use Rattle.parsing.specs.Answers.{refusedFile, doneFile, fileAnswer}
 use Rattle.parsing.specs.parts.Parsing.{headChecks, Headed, entries, entriesChecks, EntriesRead, leftOf, endNumber, Parsed}
 use Rattle.parsing.specs.declared.FileAnswer.{FileAnswer}
-use Rattle.parsing.specs.declared.parts.Taken.{Taken}
+use Rattle.parsing.specs.declared.parts.TableRead.{TableRead}
 use Rattle.parsing.specs.declared.parts.Head.{Head}
 
 -- no check that applies gives 0
@@ -45,18 +48,23 @@ sure-append : {cs ds : List Check} → Sure cs → Sure ds → Sure (cs ++ ds)
 sure-append end s = s
 sure-append (link f t) s = link f (sure-append t s)
 
-refusal-sure : (n : ℕ) → not (eqb n 0) ≡ true → n ≡ 0 → ⊥
-refusal-sure n t z = no-way (eq-eqb n 0 z) (not-on t)
+known-sure : (n : ℕ) → not (eqb n 0) ≡ true → n ≡ 0 → ⊥
+known-sure n t z = no-way (eq-eqb n 0 z) (not-on t)
+
+-- numerals that are asked for one number without a place are refused with none that has one
+module _ (file : List ℕ) (bad : List ℕ → ℕ → ℕ) (h : (before : List ℕ) (x : ℕ) → NoPlace (bad before x)) where
+  form-placeless : (n at : ℕ) → NoPlace (numerals bad n file at [] .number)
+  form-placeless n at = numerals-number NoPlace (refl, refl) (refl, refl) (refl, refl) (refl, refl) bad h n file at []
 
 module _ (file : List ℕ) where
   head-sure : Sure (headChecks file)
   unfolding headChecks
   head-sure =
-      link {n = readN file .number} (refusal-sure _) (link {n = readB file .number} (refusal-sure _) (link {n = readM file .number} (refusal-sure _) end))
+      link {n = readN file .number} (known-sure _) (link {n = readB file .number} (known-sure _) (link {n = readM file .number} (known-sure _) end))
 
   entries-sure : Sure (entriesChecks (readEntries file))
   unfolding entriesChecks
-  entries-sure = link {n = readEntries file .number} (refusal-sure _) (link {n = 6} (λ _ z. omega arith) end)
+  entries-sure = link {n = readEntries file .number} (known-sure _) (link {n = 6} (λ _ z. omega arith) end)
 
   -- 15 and 16
   abbrev endChecks : List Check
@@ -72,6 +80,32 @@ module _ (file : List ℕ) where
 
   pub file-sure : Sure (fileChecks file)
   file-sure = rw file-checks (sure-append head-sure (sure-append entries-sure (link {n = 15} (λ _ z. omega arith) (link {n = 16} (λ _ z. omega arith) end))))
+
+  -- neither the front nor the card bytes are refused with a number that has a place
+  pub N-placeless : NoPlace (readN file .number)
+  unfolding readN wrongN
+  N-placeless = form-placeless file wrongN (λ before x. placeless-alone _ 1 (refl, refl)) 1 0
+
+  pub B-placeless : NoPlace (readB file .number)
+  unfolding readB wrongB
+  B-placeless = form-placeless file wrongB (λ before x. placeless-alone _ 2 (refl, refl)) 1 (readN file .next)
+
+  pub M-placeless : NoPlace (readM file .number)
+  unfolding readM wrongM
+  M-placeless = form-placeless file wrongM (λ before x. placeless-alone _ 3 (refl, refl)) (getD (readN file .values) 0 0) (readB file .next)
+
+  pub head-placeless : NoPlace (first (headChecks file))
+  unfolding headChecks
+  head-placeless = first-of NoPlace _ (readN file .number) _ (λ _. N-placeless)
+      (first-of NoPlace _ (readB file .number) _ (λ _. B-placeless) (first-of NoPlace _ (readM file .number) [] (λ _. M-placeless) (first-end NoPlace (refl, refl))))
+
+  pub end-placeless : (at want : ℕ) → NoPlace (endNumber file at want)
+  unfolding endNumber
+  end-placeless at want = first-of NoPlace _ 15 _ (λ _. (refl, refl)) (placeless-alone _ 16 (refl, refl))
+
+  pub placeless-file : (n : ℕ) → NoPlace n → placeless n ≡ fileRefusal file n
+  unfolding fileRefusal refusalAt entryPlace
+  placeless-file n p = rw (p .0, p .1)
 
   -- a front that is refused
   pub file-head : (n : ℕ) → n ≡ first (headChecks file) → (n ≡ 0 → ⊥) → n ≡ first (fileChecks file)
@@ -132,31 +166,40 @@ module _ (file : List ℕ) (head : Head) (caps : List ℕ) (h : Headed file head
   want-is = rw (job-slots, h .bytes-are)
 
   -- the entries of that job are the file's
-  module _ (taken : Taken) (places : List ℕ) (r : EntriesRead (racksOf job) file (head .next) taken places) where
+  module _ (read : TableRead) (places : List ℕ) (r : EntriesRead (racksOf job) file (head .next) read places) where
     entries-are : entries (racksOf job) file (head .next) ≡ readEntries file
     unfolding entries readEntries
     entries-are = rw (job-racks, h .next-is)
 
-    -- 14, 15, 20, 5 or 6
-    pub taken-number : taken .number ≡ first (entriesChecks (readEntries file))
-    taken-number = rw (← entries-are) (r .number-is)
+    -- 14, 15, 20, 5 or 6, and its place
+    pub table-refusal : read .refusal ≡ fileRefusal file (first (entriesChecks (readEntries file)))
+    unfolding fileRefusal
+    table-refusal =
+        r .refusal-is
+        ∙ ap (λ (x : Numerals). refusalAt (racksOf job) file (head .next) (first (entriesChecks x))) entries-are
+        ∙ rw (job-racks, h .next-is)
+
+    pub table-number : read .refusal .number ≡ first (entriesChecks (readEntries file))
+    unfolding fileRefusal refusalAt
+    table-number = ap (λ (x : Refusal). x .number) table-refusal
 
     -- where they are done, the position behind them
-    pub taken-next : taken .number ≡ 0 → taken .next ≡ readEntries file .next
-    taken-next z = rw (← entries-are) (r .next-is z)
+    pub table-next : read .refusal .number ≡ 0 → read .next ≡ readEntries file .next
+    table-next z = rw (← entries-are) (r .next-is z)
 
     -- and the places table
-    pub taken-places : taken .number ≡ 0 → take (job .slots) places ≡ filePlaces file
+    pub table-places : read .refusal .number ≡ 0 → take (job .slots) places ≡ filePlaces file
     unfolding filePlaces
-    taken-places z =
+    table-places z =
         ap (λ (n : ℕ). take n places) (job-slots ∙ ap slots (sym job-racks)) ∙ r .places-are z ∙ ap (λ (x : Numerals). each entryOf (x .values)) entries-are
 
 -- the answer, by its number
 module _ (file : List ℕ) (n : ℕ) where
-  pub answer-refused : (n ≡ 0 → ⊥) → refusedFile n ≡ fileAnswer file n
-  answer-refused f = ap (λ (b : Bool). pick b (doneFile file) (refusedFile n)) (sym (ne-eqb n 0 f))
+  pub answer-refused : (n ≡ 0 → ⊥) → refusedFile (fileRefusal file n) ≡ fileAnswer file n
+  answer-refused f = ap (λ (b : Bool). pick b (doneFile file) (refusedFile (fileRefusal file n))) (sym (ne-eqb n 0 f))
 
   pub answer-number : fileAnswer file n .answer .number ≡ n
+  unfolding fileRefusal refusalAt
   answer-number = elim (ℕ-discrete n 0) [
     | yes e ↦ rw e
     | no f ↦ ap (λ (r : FileAnswer). r .answer .number) (sym (answer-refused f))
@@ -165,26 +208,28 @@ module _ (file : List ℕ) (n : ℕ) where
 -- the whole file: refused, and done
 module _ (file caps places : List ℕ) (long : (length caps ≡ 64) × (length places ≡ 4096)) where
   -- a refusal: the lists say nothing
-  pub parsed-refused : (n : ℕ) (found : FileAnswer) → found ≡ refusedFile n → n ≡ first (fileChecks file) → (n ≡ 0 → ⊥) → Parsed file found caps places
-  parsed-refused n found e q f =
+  pub parsed-refused : (n : ℕ) (x : Refusal) (found : FileAnswer) → found ≡ refusedFile x → x ≡ fileRefusal file n → n ≡ first (fileChecks file) → (n ≡ 0 → ⊥) → Parsed file found caps places
+  unfolding fileRefusal refusalAt
+  parsed-refused n x found e ex q f =
+      let z′ : found .answer .number ≡ n = ap (λ (r : FileAnswer). r .answer .number) e ∙ ap (λ (r : Refusal). r .number) ex in
       record {
-        is = e ∙ answer-refused file n f ∙ ap (fileAnswer file) q;
-        caps-are = λ z. absurd (f (sym (ap (λ (r : FileAnswer). r .answer .number) e) ∙ z));
-        places-are = λ z. absurd (f (sym (ap (λ (r : FileAnswer). r .answer .number) e) ∙ z));
+        is = e ∙ ap refusedFile ex ∙ answer-refused file n f ∙ ap (fileAnswer file) q;
+        caps-are = λ z. absurd (f (sym z′ ∙ z));
+        places-are = λ z. absurd (f (sym z′ ∙ z));
         few = rw e (omega arith, omega arith);
         long = long;
       }
 
   module _ (head : Head) (h : Headed file head caps) (job : Job) (is : job ≡ jobOf (ofCaps (take (head .racks) caps)))
-      (taken : Taken) (r : EntriesRead (racksOf job) file (head .next) taken places) (z : taken .number ≡ 0)
-      (a : Answer) (ea : a ≡ answer 0 noCounts) (q : 0 ≡ first (fileChecks file)) where
+      (read : TableRead) (r : EntriesRead (racksOf job) file (head .next) read places) (z : read .refusal .number ≡ 0)
+      (a : Answer) (ea : a ≡ answer (placeless 0) noCounts) (q : 0 ≡ first (fileChecks file)) where
     -- done: the answer, and both lists
-    pub parsed-done : Parsed file (made a (head .racks) (head .bytes) (job .slots) (taken .next)) caps places
+    pub parsed-done : Parsed file (made a (head .racks) (head .bytes) (job .slots) (read .next)) caps places
     parsed-done =
         record {
-          is = rw (← q) (same-made ea (h .racks-are) (h .bytes-are) (job-slots file head caps h job is) (taken-next file head caps h job is taken places r z));
+          is = rw (← q) (same-made ea (h .racks-are) (h .bytes-are) (job-slots file head caps h job is) (table-next file head caps h job is read places r z));
           caps-are = λ _. h .caps-are;
-          places-are = λ _. taken-places file head caps h job is taken places r z;
+          places-are = λ _. table-places file head caps h job is read places r z;
           few = (h .few, job-small file head caps h job is);
           long = long;
         }

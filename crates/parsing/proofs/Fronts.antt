@@ -48,8 +48,8 @@ unfolding wrongB outside badBytes
 same-B v = ap (λ (b : Bool). first ((b or ltb 256 v, 2) ∷ [])) (below-one v)
 
 -- a refusal that is known, and one that is none
-known : (a b : ℕ) → a ≡ b → (b ≡ 0 → ⊥) → not (eqb a 0) ≡ true
-known a b e f = ap not (ne-eqb a 0 (λ z. f (sym e ∙ z)))
+is-some : (a b : ℕ) → a ≡ b → (b ≡ 0 → ⊥) → not (eqb a 0) ≡ true
+is-some a b e f = ap not (ne-eqb a 0 (λ z. f (sym e ∙ z)))
 
 none : (a : ℕ) → a ≡ 0 → not (eqb a 0) ≡ false
 none a e = ap not (eq-eqb a 0 e)
@@ -62,7 +62,7 @@ module _ (file : List ℕ) (caps : List ℕ) (long : length caps ≡ 64) where
       let f = refused-by file 0 (outside 1 64 1) n e .1 in
       let r = ap (λ (x : Numerals). x .number) (one-refused file 0 wrongN (outside 1 64 1) same-N n e) in
       record {
-        number-is = sym (first-here _ _ _ (known _ n r f) ∙ r);
+        number-is = sym (first-here _ _ _ (is-some _ n r f) ∙ r);
         headed = λ z. absurd (f z);
         long = long;
       }
@@ -89,7 +89,7 @@ module _ (file : List ℕ) (caps : List ℕ) (long : length caps ≡ 64) where
         let r : readB file .number ≡ k =
         ap (λ (x : Numerals). numerals wrongB 1 file (x .next) [] .number) is-N ∙ ap (λ (x : Numerals). x .number) (one-refused file p wrongB (outside 1 256 2) same-B k e′) in
         record {
-          number-is = sym (first-later _ _ _ past-N ∙ first-here _ _ _ (known _ k r f) ∙ r);
+          number-is = sym (first-later _ _ _ past-N ∙ first-here _ _ _ (is-some _ k r f) ∙ r);
           headed = λ z. absurd (f z);
           long = long;
         }

@@ -10,7 +10,7 @@ use lib.ListN.{length, getD, length-append, List·getD-append}
 use lib.Seq.{getD-append-seam}
 use borrow.Author.Tests.{eq-eqb, ne-eqb, eqb-true, eqb-false, ltb-false}
 use Rattle.counting.specs.Tests.{_or_}
-use Rattle.counting.specs.Checks.{Check, first, refusal, done}
+use Rattle.counting.specs.Checks.{Check, first, known, done}
 use Rattle.counting.proofs.Tests.{by-test, or-none, both, not-off, no-way}
 use Rattle.counting.proofs.Some.{some-none}
 use Rattle.counting.proofs.Lists.{length-each, getD-each}
@@ -70,7 +70,7 @@ module _ (bad : List ℕ → ℕ → ℕ) (file : List ℕ) where
       ]) n at [] (λ k l. absurd (omega arith)) z
 
 -- a refusal that is not given
-refusal-0 : (n : ℕ) (cs : List Check) → first (refusal n ∷ cs) ≡ 0 → (n ≡ 0) × (first cs ≡ 0)
+refusal-0 : (n : ℕ) (cs : List Check) → first (known n ∷ cs) ≡ 0 → (n ≡ 0) × (first cs ≡ 0)
 refusal-0 n cs z = elim (ℕ-discrete n 0) [
   | yes e ↦ (e, sym (first-later _ n cs (ap not (eq-eqb n 0 e))) ∙ z)
   | no f ↦ absurd (f (sym (first-here _ n cs (ap not (ne-eqb n 0 f))) ∙ z))

@@ -1,16 +1,18 @@
 -- "Job file": N, B, the m_p, the entries, the card bytes, and the order of the reader's checks. Assumes nothing: these are definitions.
-use mathlib.Core.Bool.{not}
+use mathlib.Core.Bool.{Bool, not}
 use mathlib.Core.List.{List, [], _∷_, _++_}
-use Prim.Native.Nat.{ℕ, _-_, _*_}
+use Prim.Native.Nat.{ℕ, suc, _-_, _*_}
 use lib.Dec.{eqb, ltb}
 use lib.ListN.{length, getD, drop}
 use Rattle.counting.specs.Tests.{_and_, _or_, pick}
+use Rattle.counting.specs.Count.{least}
 use Rattle.counting.specs.Lists.{each}
-use Rattle.counting.specs.Checks.{Check, first, refusal, done}
+use Rattle.counting.specs.Checks.{Check, first, known, done}
 use Rattle.racks.specs.Limits.{FREE}
 use Rattle.racks.specs.Racks.{Rack, ofCaps, slots, isUser}
-use Rattle.racks.specs.Numbers.{badCount, badBytes, badSize, badTwice}
+use Rattle.racks.specs.Numbers.{badCount, badBytes, badSize, badTwice, placeFor}
 use Rattle.answers.specs.Answers.{noCounts, answer, written}
+use Rattle.answers.specs.declared.Refusal.{Refusal}
 use Rattle.answers.specs.declared.Answer.{Answer}
 use Rattle.numerals.specs.Numeral.{Numerals, numerals}
 
@@ -34,6 +36,24 @@ wrongEntry racks before x = first ((not (eqb x 0) and not (isUser racks (x - 1))
 unfoldable pub entryOf : ℕ → ℕ
 entryOf x = pick (eqb x 0) FREE (x - 1)
 
+-- the first n entries of racks, from a position on
+abbrev pub firstEntries : List Rack → ℕ → List ℕ → ℕ → Numerals
+firstEntries racks n file at = numerals (wrongEntry racks) n file at []
+
+-- the entries up to entry g are refused with 5
+unfoldable pub badUpTo : List Rack → List ℕ → ℕ → ℕ → Bool
+badUpTo racks file at g = eqb (firstEntries racks (suc g) file at .number) 5
+
+-- the place that goes with number n, of entries from a position on: with 5 the first that is refused with it, else as in the table that they give
+unfoldable pub entryPlace : List Rack → List ℕ → ℕ → ℕ → ℕ
+entryPlace racks file at n =
+    pick (eqb n 5) (least (slots racks) (badUpTo racks file at))
+    (placeFor racks (each entryOf (firstEntries racks (slots racks) file at .values)) n)
+
+-- number n and its place, of entries from a position on
+unfoldable pub refusalAt : List Rack → List ℕ → ℕ → ℕ → Refusal
+refusalAt racks file at n = record { number = n; place = entryPlace racks file at n }
+
 module _ (file : List ℕ) where
   -- N
   unfoldable pub readN : Numerals
@@ -53,7 +73,7 @@ module _ (file : List ℕ) where
 
   -- S entries
   unfoldable pub readEntries : Numerals
-  readEntries = numerals (wrongEntry fileRacks) (slots fileRacks) file (readM .next) []
+  readEntries = firstEntries fileRacks (slots fileRacks) file (readM .next)
 
   -- B, once read
   unfoldable pub fileBytes : ℕ
@@ -70,14 +90,18 @@ module _ (file : List ℕ) where
   -- each numeral as read; after the last entry 6, then 15 or 16 for the card bytes
   unfoldable pub fileChecks : List Check
   fileChecks =
-      refusal (readN .number)
-      ∷ refusal (readB .number)
-      ∷ refusal (readM .number)
-      ∷ refusal (readEntries .number)
+      known (readN .number)
+      ∷ known (readB .number)
+      ∷ known (readM .number)
+      ∷ known (readEntries .number)
       ∷ (badTwice filePlaces, 6)
       ∷ (ltb (length fileCards) (slots fileRacks * fileBytes), 15)
       ∷ (ltb (slots fileRacks * fileBytes) (length fileCards), 16)
       ∷ []
+
+-- number n and its place: the entry's index, not a byte
+unfoldable pub fileRefusal : List ℕ → ℕ → Refusal
+fileRefusal file n = refusalAt (fileRacks file) file (readM file .next) n
 
 -- the outcome of reading: N, B and S, the two lent lists at exit, where the card bytes begin, and the part of the file that they are
 pub record Read : Type 0 where
@@ -97,12 +121,12 @@ readChecks file caps places =
     ++ (ltb (length caps) (length (fileRacks file)) or ltb (length places) (slots (fileRacks file)), 17)
     ∷ []
 
--- **Job file.** On a refusal every other number is 0, the lists are as lent and the part is empty
+-- **Job file.** On a refusal every other number but the place is 0, the lists are as lent and the part is empty
 unfoldable pub read : List ℕ → List ℕ → List ℕ → Read
 read file caps places =
     let n = first (readChecks file caps places) in
     record {
-      answer = answer n noCounts;
+      answer = answer (fileRefusal file n) noCounts;
       racks = pick (done n) (length (fileRacks file)) 0;
       bytes = pick (done n) (fileBytes file) 0;
       slots = pick (done n) (slots (fileRacks file)) 0;

@@ -3,7 +3,7 @@ use answers::Answer;
 
 pub mod parts;
 
-// What the file reader gives: N, B, S and where the card bytes begin; all 0 on a refusal.
+// What the file reader gives: N, B, S and where the card bytes begin; all of these 0 on a refusal.
 pub struct FileAnswer {
     pub answer: Answer,
     pub racks: usize,

@@ -5,18 +5,19 @@ ghost use lib.ListN.{length, take};
 ghost use Rattle.racks.specs.Limits.{RACKS, SLOTS};
 ghost use Rattle.racks.specs.Job.{racksOf, jobOf, Sound};
 ghost use Rattle.racks.specs.Racks.{ofCaps};
-ghost use Rattle.entries.specs.parts.Marks.{UsersMarked};
+ghost use Rattle.entries.specs.parts.Marks.{UsersMarked, entriesRefusal};
 ghost use Rattle.numerals.specs.Numeral.{gotOf};
 ghost use Rattle.parsing.specs.File.{entryOf};
 ghost use Rattle.parsing.specs.Answers.{refusedFile};
-ghost use Rattle.parsing.specs.parts.Parsing.{noHead, roomFor, leftOf, endNumber, CapsRead, HeadRead, EntriesRead, Parsed};
+ghost use Rattle.parsing.specs.parts.Parsing.{noHead, roomFor, leftOf, endNumber, stoppedAt, CapsRead, HeadRead, EntriesRead, Parsed};
 use crate::FileAnswer;
 use answers::Answer;
+use answers::Refusal;
 use numerals::Numeral;
 use numerals::parts::bounded_numeral;
 use racks::Job;
 
-// What numerals read one after another give: 0 or the refusal, and the position behind them.
+// What numerals read one after another give: 0 or the number that they are refused with, and the position behind them.
 pub struct Taken {
     pub number: u8,
     pub next: usize,
@@ -59,7 +60,7 @@ fn read_caps(file: &[u8], at: usize, n: usize, caps: &mut [u16; Job::MAX_RACKS])
     Taken { number: 0, next }
 }
 
-// What the front of a file gives: 0 or the refusal, N, B, and the position behind the capacities.
+// What the front of a file gives: 0 or the number that it is refused with, N, B, and the position behind the capacities.
 pub struct Head {
     pub number: u8,
     pub racks: usize,
@@ -120,14 +121,44 @@ fn entry_of(x: usize) -> u16
     (x - 1) as u16
 }
 
-// The S entries, to the front of a list of the reader's own: 14, 15, 20 or 5 at once, 6 after the last.
+// What the entries of a file give: their refusal, and the position behind them.
+pub struct TableRead {
+    pub refusal: Refusal,
+    pub next: usize,
+}
+
+// The entries refused at entry g: with 5 that is the place, a numeral's own number has none.
+fn stopped_at(number: u8, g: usize) -> TableRead
+    ensures { λ r. ⌜ r ≡ stoppedAt number g ⌝ }
+{
+    if number == 5 {
+        let refusal = Refusal {
+            number: 5,
+            place: g,
+        };
+        return TableRead { refusal, next: 0 };
+    }
+    let refusal = Refusal::of(number);
+    TableRead { refusal, next: 0 }
+}
+
+// The refusal of the table at the front of a list, in marks that were used before.
+fn search_front(job: Job, places: &[u16], marks: &mut [u8; Job::MAX_SLOTS]) -> Refusal
+    requires { ⌜ Sound job × (job .slots ≤ length (now places)) × (length (now marks) ≡ SLOTS) ⌝ }
+    ensures { λ r. ⌜ r ≡ entriesRefusal (racksOf job) (take (job .slots) (now (places .entry))) ⌝ }
+{
+    entries::parts::find_again(job, &places[..job.slots], marks)
+}
+
+// The S entries, to the front of a list of the reader's own: 14, 15, 20 or 5 at once, 6 after the last. Which entry repeats an earlier one is
+// looked for only then.
 fn read_entries(
     job: Job,
     file: &[u8],
     at: usize,
     marks: &mut [u8; Job::MAX_SLOTS],
     places: &mut [u16; Job::MAX_SLOTS],
-) -> Taken
+) -> TableRead
     requires { ⌜ Sound job × UsersMarked (racksOf job) (now marks) × (length (now places) ≡ SLOTS) ⌝ }
     ensures { λ r. ⌜ EntriesRead (racksOf job) (now (file .entry)) at r (now (places .exit)) ⌝ }
 {
@@ -137,29 +168,29 @@ fn read_entries(
     while g < job.slots {
         let got = bounded_numeral(file, next, 0, Job::MAX_SLOTS, 5);
         let Numeral::Value(x, behind) = got else {
-            return Taken {
-                number: numerals::parts::refused_with(got),
-                next: 0,
-            };
+            let number = numerals::parts::refused_with(got);
+            return stopped_at(number, g);
         };
         let entry = entry_of(x);
         let number = entries::parts::entry_number(marks, entry);
         if number == 5 {
-            return Taken { number: 5, next: 0 };
+            return stopped_at(5, g);
         }
         places[g] = entry;
         worst = entries::parts::worse_of(worst, number);
         next = behind;
         g = g + 1;
     }
-    Taken {
-        number: worst,
-        next,
+    if worst == 0 {
+        let refusal = Refusal::of(0);
+        return TableRead { refusal, next };
     }
+    let refusal = search_front(job, places, marks);
+    TableRead { refusal, next }
 }
 
 // The S entries, with the marks made.
-fn read_table(job: Job, file: &[u8], at: usize, places: &mut [u16; Job::MAX_SLOTS]) -> Taken
+fn read_table(job: Job, file: &[u8], at: usize, places: &mut [u16; Job::MAX_SLOTS]) -> TableRead
     requires { ⌜ Sound job × (length (now places) ≡ SLOTS) ⌝ }
     ensures { λ r. ⌜ EntriesRead (racksOf job) (now (file .entry)) at r (now (places .exit)) ⌝ }
 {
@@ -192,11 +223,11 @@ fn left_of(file: &[u8], at: usize) -> usize
     file.len() - at
 }
 
-// A refusal: its number, and 0 for every other.
-pub fn refused(number: u8) -> FileAnswer
-    ensures { λ r. ⌜ r ≡ refusedFile number ⌝ }
+// A refusal: its number and place, and 0 for every other.
+pub fn refused(refusal: Refusal) -> FileAnswer
+    ensures { λ r. ⌜ r ≡ refusedFile refusal ⌝ }
 {
-    let answer = Answer::of(number);
+    let answer = Answer::refused(refusal);
     FileAnswer {
         answer,
         racks: 0,
@@ -217,16 +248,16 @@ pub fn parse(
 {
     let head = read_head(file, caps);
     if head.number != 0 {
-        return refused(head.number);
+        return refused(Refusal::of(head.number));
     }
     let job = job_of_first(caps, head.racks);
-    let taken = read_table(job, file, head.next, places);
-    if taken.number != 0 {
-        return refused(taken.number);
+    let read = read_table(job, file, head.next, places);
+    if read.refusal.number != 0 {
+        return refused(read.refusal);
     }
-    let number = end_number(file, taken.next, job.slots * head.bytes);
+    let number = end_number(file, read.next, job.slots * head.bytes);
     if number != 0 {
-        return refused(number);
+        return refused(Refusal::of(number));
     }
     let answer = Answer::of(0);
     FileAnswer {
@@ -234,6 +265,6 @@ pub fn parse(
         racks: head.racks,
         bytes: head.bytes,
         slots: job.slots,
-        start: taken.next,
+        start: read.next,
     }
 }

@@ -1,43 +1,42 @@
--- The phase plan by a job: its number, and that it is the capacities'. Assumes nothing.
-use mathlib.Core.Path.{_≡_, sym, _∙_}
+-- The phase plan by a job: its refusal, and that it is the capacities'. Assumes nothing.
+use mathlib.Core.Path.{_≡_, refl, sym, _∙_}
 use mathlib.Core.List.{List, [], _∷_}
 use Prim.Native.Nat.{ℕ, _*_, _≤_, _<_}
 use native.Mathlib.Omega.{arith}
 use lib.ListN.{length}
 use borrow.Author.Tests.{lt-ltb, le-ltb}
 use Rattle.counting.specs.Lists.{flat}
-use Rattle.counting.proofs.Checks.{first-here, first-later, first-none, refusal-here, refusal-past}
+use Rattle.counting.proofs.Checks.{first-here, first-later, first-none, known-past}
 use Rattle.counting.proofs.Stores.{length-flat}
-use Rattle.answers.specs.Answers.{movesOf}
+use Rattle.answers.specs.Answers.{placeless, movesOf}
 use Rattle.racks.specs.Racks.{Rack, ofCaps}
 use Rattle.racks.specs.Numbers.{tooShort}
 use Rattle.racks.specs.Job.{racksOf, jobOf}
 use Rattle.racks.specs.declared.Job.{Job}
-use Rattle.tables.specs.parts.Tables.{tableNumber}
+use Rattle.tables.specs.parts.Tables.{refusalBy, tableNumber}
+use Rattle.tables.proofs.Refusals.{placeless-by}
 use Rattle.tables.proofs.Tables.{listed-by}
 use Rattle.plans.specs.Plan.{plan, planChecks, planned}
 use Rattle.planner.specs.parts.Planned.{planNumber, plannedBy}
 
 module _ (job : Job) (places lent : List ℕ) where
-  -- refused by the table
-  pub planned-table : (n : ℕ) → n ≡ tableNumber job places → (n ≡ 0 → ⊥) → n ≡ planNumber job places lent
-  unfolding planNumber
-  planned-table n e f = e ∙ sym (refusal-here (tableNumber job places) _ (λ z. f (e ∙ z)))
-
   module _ (z : tableNumber job places ≡ 0) where
     -- refused since the list is too short
-    pub planned-short : length lent < 2 * length (plan (racksOf job) places) → 13 ≡ planNumber job places lent
+    pub planned-short : length lent < 2 * length (plan (racksOf job) places) → placeless 13 ≡ refusalBy job places (planNumber job places lent)
     unfolding planNumber tooShort
     planned-short l =
-        sym (refusal-past (tableNumber job places) _ z ∙ first-here _ 13 [] (lt-ltb (length lent) (length (flat (plan (racksOf job) places))) (omega (arith, length-flat (plan (racksOf job) places)))))
+        placeless-by job places 13 _ (refl, refl)
+        (sym (known-past (tableNumber job places) _ z ∙ first-here _ 13 [] (lt-ltb (length lent) (length (flat (plan (racksOf job) places))) (omega (arith, length-flat (plan (racksOf job) places))))))
 
     -- not refused
-    pub planned-none : 2 * length (plan (racksOf job) places) ≤ length lent → planNumber job places lent ≡ 0
+    pub planned-none : 2 * length (plan (racksOf job) places) ≤ length lent → placeless 0 ≡ refusalBy job places (planNumber job places lent)
     unfolding planNumber tooShort
     planned-none l =
-        refusal-past (tableNumber job places) _ z
+        placeless-by job places 0 _ (refl, refl)
+        (sym
+        (known-past (tableNumber job places) _ z
         ∙ first-later _ 13 [] (le-ltb (length lent) (length (flat (plan (racksOf job) places))) (omega (arith, length-flat (plan (racksOf job) places))))
-        ∙ first-none
+        ∙ first-none))
 
 -- a job made from capacities gives their plan
 pub planned-by : (caps : List ℕ) (job : Job) → job ≡ jobOf (ofCaps caps) → (places lent : List ℕ) → plannedBy job places lent ≡ planned (ofCaps caps) places lent

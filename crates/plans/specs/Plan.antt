@@ -11,8 +11,8 @@ use Rattle.counting.specs.Checks.{Check, first}
 use Rattle.answers.specs.declared.Answer.{Answer}
 use Rattle.racks.specs.Racks.{Rack, slots, ofCaps}
 use Rattle.racks.specs.Table.{bound, owes, freeOn}
-use Rattle.racks.specs.Numbers.{tableChecks, tooShort}
-use Rattle.answers.specs.Answers.{movesOf, answer, written, Listed, listedOf}
+use Rattle.racks.specs.Numbers.{tableChecks, tooShort, refusalIn}
+use Rattle.answers.specs.Answers.{movesOf, Listed, listed, listedOf}
 
 -- rack i is another than p
 unfoldable pub other : ℕ → ℕ → Bool
@@ -62,7 +62,7 @@ unfoldable pub planned : List Rack → List ℕ → List ℕ → Listed
 planned racks places lent =
     let n = first (planChecks racks places lent) in
     let pairs = plan racks places in
-    record { answer = answer n (movesOf (length pairs)); lent = written n lent (flat pairs) }
+    listed (refusalIn racks places n) (movesOf (length pairs)) (flat pairs) lent
 
 -- the contract of `phase_plan`: what it gives, and the lent list at exit
 abbrev pub PhasePlan : List ℕ → List ℕ → List ℕ → Answer → List ℕ → Type 0

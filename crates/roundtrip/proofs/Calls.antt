@@ -13,13 +13,13 @@ use Rattle.counting.specs.Checks.{Check, first}
 use Rattle.counting.proofs.Tests.{or-none, or-off-l, or-off-r}
 use Rattle.counting.proofs.Checks.{first-later, first-none, first-off, first-append, first-clear, first-past}
 use Rattle.counting.proofs.Stores.{take-front}
-use Rattle.answers.specs.Answers.{answer, noCounts, Sized, sizedOf, sized}
+use Rattle.answers.specs.Answers.{placeless, answer, noCounts, Sized, sizedOf, sized}
 use Rattle.answers.specs.declared.SizeAnswer.{SizeAnswer}
 use Rattle.racks.specs.Racks.{ofCaps, slots}
-use Rattle.racks.specs.Numbers.{cardChecks, tooShort}
+use Rattle.racks.specs.Numbers.{cardChecks, tooShort, refusalIn}
 use Rattle.racks.proofs.Caps.{length-caps}
 use Rattle.tables.proofs.Tables.{cards-marked, cards-pass}
-use Rattle.parsing.specs.File.{Read, readM, readEntries, fileRacks, fileBytes, filePlaces, fileCards, fileChecks, readChecks, read}
+use Rattle.parsing.specs.File.{Read, readM, readEntries, fileRacks, fileBytes, filePlaces, fileCards, fileChecks, entryPlace, refusalAt, fileRefusal, readChecks, read}
 use Rattle.parsing.proofs.Files.{sure-past, file-sure}
 use Rattle.parsing.proofs.Legal.{file-legal}
 use Rattle.jobwriter.specs.Writing.{fileFor, writeChecks, filed, WriteFile}
@@ -30,7 +30,7 @@ use Rattle.roundtrip.proofs.WriteBack.{write-back}
 -- what a job is read as, into lent lists, from a file where its card bytes begin at `start`
 abbrev pub readAs : List ℕ → ℕ → List ℕ → List ℕ → ℕ → List ℕ → List ℕ → Read
 readAs caps b places cards start lent lent′ = record {
-  answer = answer 0 noCounts;
+  answer = answer (placeless 0) noCounts;
   racks = length caps;
   bytes = b;
   slots = length places;
@@ -65,7 +65,7 @@ module _ (file lent lent′ : List ℕ) where
 
     -- what is read, by the file's own parts
     parts : read file lent lent′ ≡ readAs (readM file .values) (fileBytes file) (filePlaces file) (fileCards file) (readEntries file .next) lent lent′
-    unfolding read fileRacks
+    unfolding read fileRacks fileRefusal refusalAt entryPlace
     parts = rw (z, length-caps (readM file .values), sym (cards-pass (fileRacks file) (fileBytes file) (filePlaces file) (fileCards file) (file-legal file none) .0 .long))
 
 -- what was written, read
@@ -92,9 +92,9 @@ module _ (caps : List ℕ) (b : ℕ) (places cards lent : List ℕ) (r : SizeAns
       ltb-false (length lent) (length file) (first-off _ 19 [] (λ q. omega arith) e .0)
 
   -- the file stands at the buffer's front
-  outcome : sizedOf r lent′ ≡ sized 0 file lent
+  outcome : sizedOf r lent′ ≡ sized (placeless 0) file lent
   unfolding filed
-  outcome = w ∙ ap (λ (n : ℕ). sized n file lent) number
+  outcome = w ∙ ap (λ (n : ℕ). sized (refusalIn (ofCaps caps) places n) file lent) number
 
   pub written-size : r .size ≡ length file
   written-size = ap (λ (o : Sized). o .size) outcome
@@ -119,7 +119,7 @@ module _ (file lent₁ lent₂ : List ℕ) (bytes : Bytes file) (z : read file l
   got = read file lent₁ lent₂
 
   number-read : first (readChecks file lent₁ lent₂) ≡ 0
-  unfolding read
+  unfolding read fileRefusal refusalAt
   number-read = z
 
   legal : first (cardChecks (fileRacks file) (fileBytes file) (filePlaces file) (fileCards file)) ≡ 0
@@ -151,7 +151,7 @@ module _ (file lent₁ lent₂ : List ℕ) (bytes : Bytes file) (z : read file l
 
   -- and where the buffer has room nothing is refused
   pub written-read : (lent : List ℕ) → length file ≤ length lent
-      → filed (ofCaps (take (got .racks) (got .caps))) (got .bytes) (take (got .slots) (got .places)) (got .cards) lent ≡ sized 0 file lent
+      → filed (ofCaps (take (got .racks) (got .caps))) (got .bytes) (take (got .slots) (got .places)) (got .cards) lent ≡ sized (placeless 0) file lent
   unfolding filed writeChecks tooShort fileRacks
   written-read lent h =
       let n : first (cardChecks (ofCaps (take (got .racks) (got .caps))) (got .bytes) (take (got .slots) (got .places)) (got .cards) ++ (ltb (length lent) (length file), 19) ∷ []) ≡ 0 =

@@ -38,9 +38,9 @@ pub fn run_job(job: Job, b: usize, places: &mut [u16], cards: &mut [u8]) -> Answ
     ensures { λ r. ⌜ outcomeOf r (now (places .exit)) (now (cards .exit)) ≡ ranBy job b (held (now (places .entry)) (now (cards .entry))) ⌝ }
 {
     let mut racking = [0u8; Job::MAX_SLOTS];
-    let number = tables::parts::cards_number(job, b, places, cards, &mut racking);
-    if number != 0 {
-        return Answer::of(number);
+    let refusal = tables::parts::cards_refusal(job, b, places, cards, &mut racking);
+    if refusal.number != 0 {
+        return Answer::refused(refusal);
     }
     let tally = run_cards(job, b, places, cards, &mut racking);
     Answer::done(tally)

@@ -8,7 +8,7 @@ use lib.ListN.{length}
 use Rattle.counting.specs.Lists.{Pair, join, matching}
 use Rattle.counting.specs.Checks.{first}
 use Rattle.racks.specs.Racks.{Rack, ofCaps}
-use Rattle.racks.specs.Numbers.{cardChecks}
+use Rattle.racks.specs.Numbers.{cardChecks, refusalIn}
 use Rattle.answers.specs.declared.Tally.{Tally}
 use Rattle.moves.specs.Moves.{Held, carried, Outcome, outcome}
 use Rattle.moves.specs.Phases.{phases}
@@ -34,7 +34,9 @@ counts racks b h =
 
 -- **Whole run.** Phases until nothing is away, then the shuffle
 unfoldable pub ran : List Rack → ℕ → Held → Outcome
-ran racks b h = outcome (first (cardChecks racks b (h .places) (h .cards))) (counts racks b h) (settledHeld racks b (gathered racks b h)) h
+ran racks b h =
+    outcome (refusalIn racks (h .places) (first (cardChecks racks b (h .places) (h .cards)))) (counts racks b h)
+    (settledHeld racks b (gathered racks b h)) h
 
 -- the contract of `whole_run`: what it gives, and the table and the cards at exit
 abbrev pub WholeRun : List ℕ → ℕ → Held → Outcome → Type 0

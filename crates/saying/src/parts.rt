@@ -2,12 +2,14 @@
 use answers::Answer;
 use racks::Job;
 
-// A name, the number given, and the counts of phases, moves and copies.
+// A name, the number given, its place, and the counts of phases, moves and copies.
 pub fn say_answer(name: &[u8], answer: Answer) {
     let tally = answer.tally;
     io::write_all(1, name);
     io::write_all(1, b": ");
     io::print_decimal(1, answer.number as u64);
+    io::write_all(1, b" place ");
+    io::print_decimal(1, answer.place as u64);
     io::write_all(1, b" counts ");
     io::print_decimal(1, tally.phases as u64);
     io::write_all(1, b" ");

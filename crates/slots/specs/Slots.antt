@@ -6,8 +6,9 @@ use Rattle.counting.specs.Tests.{pick}
 use Rattle.counting.specs.Checks.{Check, first, done}
 use Rattle.racks.specs.Racks.{Rack, isUser, ofCaps}
 use Rattle.racks.specs.Table.{free, settled, away, rackTo}
-use Rattle.racks.specs.Numbers.{tableChecks, noSlot}
+use Rattle.racks.specs.Numbers.{tableChecks, noSlot, refusalIn}
 use Rattle.answers.specs.Answers.{answer, noCounts}
+use Rattle.answers.specs.declared.Refusal.{Refusal}
 use Rattle.slots.specs.declared.Kind.{Kind}
 use Rattle.slots.specs.declared.Kind.the-variants as kind
 use Rattle.slots.specs.declared.State.{State}
@@ -30,9 +31,9 @@ stateOf racks places g =
 abbrev pub nothing : Slot
 nothing = record { kind = kind.None; state = state.None }
 
--- a refusal: its number, no counts, and none
-abbrev pub refusedSlot : ℕ → SlotAnswer
-refusedSlot n = record { answer = answer n noCounts; slot = nothing }
+-- a refusal: its number and place, no counts, and none
+abbrev pub refusedSlot : Refusal → SlotAnswer
+refusedSlot x = record { answer = answer x noCounts; slot = nothing }
 
 -- 1, 3 to 6, and 7
 unfoldable pub slotChecks : List Rack → List ℕ → ℕ → List Check
@@ -42,7 +43,10 @@ slotChecks racks places g = tableChecks racks places ++ (noSlot racks g, 7) ∷ 
 unfoldable pub asked : List Rack → List ℕ → ℕ → SlotAnswer
 asked racks places g =
     let n = first (slotChecks racks places g) in
-    record { answer = answer n noCounts; slot = pick (done n) (record { kind = kindOf racks g; state = stateOf racks places g }) nothing }
+    record {
+      answer = answer (refusalIn racks places n) noCounts;
+      slot = pick (done n) (record { kind = kindOf racks g; state = stateOf racks places g }) nothing;
+    }
 
 -- the contract of `slot_question`: what it gives
 abbrev pub SlotQuestion : List ℕ → List ℕ → ℕ → SlotAnswer → Type 0

@@ -12,13 +12,14 @@ use crate::Slot;
 use crate::SlotAnswer;
 use crate::State;
 use answers::Answer;
+use answers::Refusal;
 use racks::Job;
 
-// A refusal of the slot question: its number, and none.
-pub fn refused(number: u8) -> SlotAnswer
-    ensures { λ r. ⌜ r ≡ refusedSlot number ⌝ }
+// A refusal of the slot question: its number and place, and none.
+pub fn refused(refusal: Refusal) -> SlotAnswer
+    ensures { λ r. ⌜ r ≡ refusedSlot refusal ⌝ }
 {
-    let answer = Answer::of(number);
+    let answer = Answer::refused(refusal);
     SlotAnswer {
         answer,
         slot: Slot {
@@ -78,12 +79,12 @@ pub fn ask_job(job: Job, places: &[u16], g: usize) -> SlotAnswer
     ensures { λ r. ⌜ r ≡ askedBy job (now (places .entry)) g ⌝ }
 {
     let mut racking = [0u8; Job::MAX_SLOTS];
-    let number = tables::parts::table_number(job, places, &mut racking);
-    if number != 0 {
-        return refused(number);
+    let refusal = tables::parts::table_refusal(job, places, &mut racking);
+    if refusal.number != 0 {
+        return refused(refusal);
     }
     if places.len() <= g {
-        return refused(7);
+        return refused(Refusal::of(7));
     }
     let answer = Answer::of(0);
     let kind = kind_of(job, &racking, g);

@@ -2,3 +2,4 @@ pub mod Fills
 pub mod Tables
 pub mod Targets
 pub mod One
+pub mod Refusals

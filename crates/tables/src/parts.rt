@@ -1,4 +1,4 @@
-// What the layers above share: each slot's rack in a list of bytes, and the number of a lent table.
+// What the layers above share: each slot's rack in a list of bytes, and the refusal of a lent table.
 ghost use mathlib.Core.Path.{_≡_};
 ghost use lib.ListN.{length};
 ghost use Rattle.counting.specs.Tests.{bit};
@@ -6,6 +6,7 @@ ghost use Rattle.racks.specs.Limits.{SLOTS};
 ghost use Rattle.racks.specs.Job.{racksOf, Sound, Fit};
 ghost use Rattle.tables.specs.parts.Tables.{namedSlot, Racked, Checked, CardsChecked, checkedBy};
 use answers::Answer;
+use answers::Refusal;
 use racks::Job;
 
 // The slot that an entry names; a free slot's own. Two returns that become one choice, not a branch: in a table where free and taken slots
@@ -45,51 +46,51 @@ pub fn fill_racking(job: Job, racking: &mut [u8; Job::MAX_SLOTS])
     }
 }
 
-// The number of a table; where it is 0, each slot's rack is known.
-pub fn table_number(job: Job, places: &[u16], racking: &mut [u8; Job::MAX_SLOTS]) -> u8
+// The refusal of a table; where its number is 0, each slot's rack is known.
+pub fn table_refusal(job: Job, places: &[u16], racking: &mut [u8; Job::MAX_SLOTS]) -> Refusal
     requires { ⌜ Fit job × (length (now racking) ≡ SLOTS) ⌝ }
     ensures { λ r. ⌜ Checked job (now (places .entry)) r (now (racking .exit)) ⌝ }
 {
     if job.refused != 0 {
-        return job.refused;
+        return Refusal::of(job.refused);
     }
     if places.len() != job.slots {
-        return 4;
+        return Refusal::of(4);
     }
     fill_racking(job, racking);
     if entries::parts::entries_clear(job, places) {
-        return 0;
+        return Refusal::of(0);
     }
-    entries::parts::number_entries(job, places)
+    entries::parts::find_refusal(job, places)
 }
 
-// The number of a table and its cards of B bytes; where it is 0, each slot's rack is known.
-pub fn cards_number(
+// The refusal of a table and its cards of B bytes; where its number is 0, each slot's rack is known.
+pub fn cards_refusal(
     job: Job,
     b: usize,
     places: &[u16],
     cards: &[u8],
     racking: &mut [u8; Job::MAX_SLOTS],
-) -> u8
+) -> Refusal
     requires { ⌜ Fit job × (length (now racking) ≡ SLOTS) ⌝ }
     ensures { λ r. ⌜ CardsChecked job b (now (places .entry)) (now (cards .entry)) r (now (racking .exit)) ⌝ }
 {
     if job.refused == 1 {
-        return 1;
+        return Refusal::of(1);
     }
     if b == 0 {
-        return 2;
+        return Refusal::of(2);
     }
     if Job::MAX_BYTES < b {
-        return 2;
+        return Refusal::of(2);
     }
     if job.refused != 0 {
-        return job.refused;
+        return Refusal::of(job.refused);
     }
     if cards.len() != job.slots * b {
-        return 4;
+        return Refusal::of(4);
     }
-    table_number(job, places, racking)
+    table_refusal(job, places, racking)
 }
 
 // The table check, by the job.
@@ -98,6 +99,6 @@ pub fn check_job(job: Job, places: &[u16]) -> Answer
     ensures { λ r. ⌜ r ≡ checkedBy job (now (places .entry)) ⌝ }
 {
     let mut racking = [0u8; Job::MAX_SLOTS];
-    let number = table_number(job, places, &mut racking);
-    Answer::of(number)
+    let refusal = table_refusal(job, places, &mut racking);
+    Answer::refused(refusal)
 }

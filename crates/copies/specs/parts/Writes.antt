@@ -8,14 +8,14 @@ use lib.ListN.{length, getD}
 use lib.Seq.{sets}
 use Rattle.counting.specs.Tests.{pick}
 use Rattle.counting.specs.Count.{some}
-use Rattle.counting.specs.Checks.{first, refusal}
+use Rattle.counting.specs.Checks.{first, known}
 use Rattle.counting.specs.Lists.{Pair, flat}
 use Rattle.racks.specs.Numbers.{someAway, tooShort}
 use Rattle.racks.specs.Job.{racksOf}
 use Rattle.racks.specs.declared.Job.{Job}
-use Rattle.answers.specs.Answers.{copiesOf, plusCopies, Listed, listed}
+use Rattle.answers.specs.Answers.{placeless, copiesOf, plusCopies, Listed, listed}
 use Rattle.answers.specs.declared.Tally.{Tally}
-use Rattle.tables.specs.parts.Tables.{awayBy, tableNumber}
+use Rattle.tables.specs.parts.Tables.{awayBy, refusalBy, tableNumber}
 use Rattle.factors.specs.Copies.{factor, copies, copyList}
 use Rattle.factors.specs.parts.Walks.{LISTED, Marked, SomeMarked}
 
@@ -58,12 +58,14 @@ fits room places = not (ltb room (2 * length (copyList places)))
 
 -- the outcome where the table is accepted and nothing is away: 13, or the list and its copies
 unfoldable pub listedHere : List ℕ → List ℕ → Listed
-listedHere places lent = listed (first ((tooShort lent (flat (copyList places)), 13) ∷ [])) (copiesOf (length (copyList places))) (flat (copyList places)) lent
+listedHere places lent =
+    listed (placeless (first ((tooShort lent (flat (copyList places)), 13) ∷ []))) (copiesOf (length (copyList places))) (flat (copyList places)) lent
 
 -- the number of the copy list, by a job: that of the table, then 12 and 13
 unfoldable pub copyNumber : Job → List ℕ → List ℕ → ℕ
-copyNumber job places lent = first (refusal (tableNumber job places) ∷ (someAway (racksOf job) places, 12) ∷ (tooShort lent (flat (copyList places)), 13) ∷ [])
+copyNumber job places lent = first (known (tableNumber job places) ∷ (someAway (racksOf job) places, 12) ∷ (tooShort lent (flat (copyList places)), 13) ∷ [])
 
 -- the copy list, by a job
 unfoldable pub copiedBy : Job → List ℕ → List ℕ → Listed
-copiedBy job places lent = listed (copyNumber job places lent) (copiesOf (length (copyList places))) (flat (copyList places)) lent
+copiedBy job places lent =
+    listed (refusalBy job places (copyNumber job places lent)) (copiesOf (length (copyList places))) (flat (copyList places)) lent

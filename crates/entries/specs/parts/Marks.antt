@@ -6,12 +6,14 @@ use Prim.Native.Nat.{ℕ, _≤_, _<_}
 use lib.Dec.{eqb}
 use lib.ListN.{length, getD, set}
 use Rattle.counting.specs.Tests.{bit, pick}
-use Rattle.counting.specs.Count.{some}
-use Rattle.counting.specs.Checks.{first}
+use Rattle.counting.specs.Count.{some, least}
+use Rattle.counting.specs.Checks.{first, done}
+use Rattle.answers.specs.Answers.{placeless}
+use Rattle.answers.specs.declared.Refusal.{Refusal}
 use Rattle.racks.specs.Limits.{SLOTS, FREE}
 use Rattle.racks.specs.Racks.{Rack, isUser}
 use Rattle.racks.specs.Table.{names}
-use Rattle.racks.specs.Numbers.{entryChecks}
+use Rattle.racks.specs.Numbers.{repeats, entryChecks, refusalIn}
 
 -- the list has the value from low up to high, elsewhere what it had, and its length
 pub record FilledFrom (low high value : ℕ) (before after : List ℕ) : Type 0 where
@@ -50,6 +52,18 @@ pub record Entered (marks : List ℕ) (x number : ℕ) (after : List ℕ) : Type
 unfoldable pub entriesNumber : List Rack → List ℕ → ℕ
 entriesNumber racks places = first (entryChecks racks places)
 
+-- and the place that goes with it
+unfoldable pub entriesRefusal : List Rack → List ℕ → Refusal
+entriesRefusal racks places = refusalIn racks places (entriesNumber racks places)
+
 -- 6 where it is given, else what was
 unfoldable pub worse : ℕ → ℕ → ℕ
 worse was now = pick (eqb now 6) 6 was
+
+-- 6 at the first of the entries that it is given to: what was found before entry g, and the number of that entry
+unfoldable pub firstTwice : Refusal → ℕ → ℕ → Refusal
+firstTwice was number g = pick (done (was .number)) (pick (eqb number 6) (record { number = 6; place = g }) was) was
+
+-- of the first g entries: 6 and the lowest that repeats an earlier one, where there is one
+unfoldable pub twiceTo : List ℕ → ℕ → Refusal
+twiceTo places g = pick (some g (repeats places)) (record { number = 6; place = least g (repeats places) }) (placeless 0)

@@ -20,7 +20,7 @@ pub record OnceMarked (racks : List Rack) (marks : List ℕ) : Type 0 where
   pub users : (v : ℕ) → v ≤ slots racks → getD marks v 0 ≡ 1 → isUser racks v ≡ true
   pub long : length marks ≡ MARKS
 
--- the mark at a position is shut; whether it was open
+-- a mark is shut; whether it was open
 pub record MarkTaken (marks : List ℕ) (at : ℕ) (fits : Bool) (after : List ℕ) : Type 0 where
   pub fits-is : fits ≡ eqb (getD marks at 0) 1
   pub marks-are : after ≡ set marks at 0

@@ -10,23 +10,31 @@ parse-requires c κs = search needs
 returns : tie.Need-returns
 returns c = let s = c .before .before .before .before .before .before .before .before in read-file-refused (s .args .file .now) (s .args .caps .now) (s .args .places .now) _ _ _ (c .before .before .parse .ensures) (c .if1 .taken)
 
+of-requires : tie.Need-of-requires
+of-requires c κs = search needs
+
 refused-requires : tie.Need-refused-requires
 refused-requires c κs = search needs
 
 returns-2 : tie.Need-returns-2
 returns-2 c =
-    let e = c .before .before .before in
+    let e = c .before .before .before .before in
     let s = e .before .before .before .before .before .before .before .before in
-    rw (c .refused .ensures) (read-17-caps (s .args .file .now) (s .args .caps .now) (s .args .places .now) _ _ _ (e .before .before .parse .ensures) (e .if1 .left) (c .before .if2 .taken))
+    read-17-caps (s .args .file .now) (s .args .caps .now) (s .args .places .now) _ _ _ (e .before .before .parse .ensures) (e .if1 .left) (c .before .before .if2 .taken) _ _
+    (c .refused .ensures) (c .before .of .ensures)
+
+of-requires-2 : tie.Need-of-requires-2
+of-requires-2 c κs = search needs
 
 refused-requires-2 : tie.Need-refused-requires-2
 refused-requires-2 c κs = search needs
 
 returns-3 : tie.Need-returns-3
 returns-3 c =
-    let e = c .before .before .before .before .before in
+    let e = c .before .before .before .before .before .before in
     let s = e .before .before .before .before .before .before .before .before in
-    rw (c .refused2 .ensures) (read-17-places (s .args .file .now) (s .args .caps .now) (s .args .places .now) _ _ _ (e .before .before .parse .ensures) (e .if1 .left) (c .before .if3 .taken))
+    read-17-places (s .args .file .now) (s .args .caps .now) (s .args .places .now) _ _ _ (e .before .before .parse .ensures) (e .if1 .left) (c .before .before .if3 .taken) _ _
+    (c .refused2 .ensures) (c .before .of2 .ensures)
 
 slice-aggregate-copy-front : tie.Need-slice-aggregate-copy-front
 slice-aggregate-copy-front c = search needs
@@ -59,8 +67,10 @@ read-file-spec =
     (tie.spec
     parse-requires
     returns
+    of-requires
     refused-requires
     returns-2
+    of-requires-2
     refused-requires-2
     returns-3
     slice-aggregate-copy-front

@@ -5,12 +5,12 @@ use Prim.Native.Nat.{ℕ, _+_, _≤_, _<_}
 use lib.ListN.{length, getD}
 use lib.Seq.{sets}
 use Rattle.counting.specs.Lists.{each}
-use Rattle.counting.specs.Checks.{first, refusal}
+use Rattle.counting.specs.Checks.{first, known}
 use Rattle.racks.specs.Limits.{BYTES, SLOTS}
 use Rattle.racks.specs.Numbers.{tooShort}
 use Rattle.racks.specs.Job.{racksOf, Sound}
 use Rattle.racks.specs.declared.Job.{Job}
-use Rattle.tables.specs.parts.Tables.{cardsNumber}
+use Rattle.tables.specs.parts.Tables.{refusalBy, cardsNumber}
 use Rattle.answers.specs.Answers.{Sized, sized}
 use Rattle.jobwriter.specs.Writing.{numeralsOf, fileEntry, fileFor}
 
@@ -38,8 +38,9 @@ pub record Writable (job : Job) (b : ℕ) (places : List ℕ) : Type 0 where
 
 -- the number of the writer, by a job: that of the table and its cards, then 19
 unfoldable pub writeNumber : Job → ℕ → List ℕ → List ℕ → List ℕ → ℕ
-writeNumber job b places cards lent = first (refusal (cardsNumber job b places cards) ∷ (tooShort lent (fileFor (racksOf job) b places cards), 19) ∷ [])
+writeNumber job b places cards lent = first (known (cardsNumber job b places cards) ∷ (tooShort lent (fileFor (racksOf job) b places cards), 19) ∷ [])
 
 -- the file written, by a job
 unfoldable pub filedBy : Job → ℕ → List ℕ → List ℕ → List ℕ → Sized
-filedBy job b places cards lent = sized (writeNumber job b places cards lent) (fileFor (racksOf job) b places cards) lent
+filedBy job b places cards lent =
+    sized (refusalBy job places (writeNumber job b places cards lent)) (fileFor (racksOf job) b places cards) lent

@@ -3,19 +3,20 @@ use mathlib.Core.Path.{_≡_}
 use mathlib.Core.Bool.{false}
 use mathlib.Core.List.{List, [], _∷_}
 use Prim.Native.Nat.{ℕ, _-_, _≤_}
-use lib.Dec.{ltb}
+use lib.Dec.{eqb, ltb}
 use lib.ListN.{length, take, drop}
 use Rattle.counting.specs.Tests.{pick}
 use Rattle.counting.specs.Lists.{each}
-use Rattle.counting.specs.Checks.{Check, first, refusal, done}
+use Rattle.counting.specs.Checks.{Check, first, known, done}
 use Rattle.racks.specs.Limits.{USERS, TOTAL, BYTES, RACKS, SLOTS}
 use Rattle.racks.specs.Racks.{Rack, ofCaps, slots}
 use Rattle.racks.specs.Numbers.{badSize, badTwice, rackChecks}
 use Rattle.numerals.specs.Numeral.{Numerals, numerals}
-use Rattle.parsing.specs.File.{wrongM, wrongEntry, entryOf, readN, readB, readM, fileRacks, fileBytes, filePlaces, fileChecks}
+use Rattle.parsing.specs.File.{wrongM, entryOf, firstEntries, refusalAt, readN, readB, readM, fileRacks, fileBytes, filePlaces, fileChecks}
 use Rattle.parsing.specs.Answers.{fileAnswer}
 use Rattle.parsing.specs.declared.FileAnswer.{FileAnswer}
 use Rattle.parsing.specs.declared.parts.Taken.{Taken}
+use Rattle.parsing.specs.declared.parts.TableRead.{TableRead}
 use Rattle.parsing.specs.declared.parts.Head.{Head}
 
 -- the highest m_p that is not refused, with `total` user slots before it
@@ -38,7 +39,7 @@ noHead n = record { number = n; racks = 0; bytes = 0; next = 0 }
 
 -- 1, 2, 3, 14, 15 or 20 for N, B and the m_p
 unfoldable pub headChecks : List ℕ → List Check
-headChecks file = refusal (readN file .number) ∷ refusal (readB file .number) ∷ refusal (readM file .number) ∷ []
+headChecks file = known (readN file .number) ∷ known (readB file .number) ∷ known (readM file .number) ∷ []
 
 -- a front that is done: N, B, the position behind, and the m_p at the front of the list, in order
 pub record Headed (file : List ℕ) (head : Head) (caps : List ℕ) : Type 0 where
@@ -58,17 +59,21 @@ pub record HeadRead (file : List ℕ) (head : Head) (caps : List ℕ) : Type 0 w
 
 -- the S entries of racks, from a position on
 unfoldable pub entries : List Rack → List ℕ → ℕ → Numerals
-entries racks file at = numerals (wrongEntry racks) (slots racks) file at []
+entries racks file at = firstEntries racks (slots racks) file at
 
 -- 14, 15, 20 or 5 for the entries, then 6
 unfoldable pub entriesChecks : Numerals → List Check
-entriesChecks read = refusal (read .number) ∷ (badTwice (each entryOf (read .values)), 6) ∷ []
+entriesChecks read = known (read .number) ∷ (badTwice (each entryOf (read .values)), 6) ∷ []
+
+-- the entries refused at entry g: with 5 that is the place, a numeral's own number has none
+unfoldable pub stoppedAt : ℕ → ℕ → TableRead
+stoppedAt n g = record { refusal = record { number = n; place = pick (eqb n 5) g 0 }; next = 0 }
 
 -- what reading the entries gives: where it is done, the places at the front of the list
-pub record EntriesRead (racks : List Rack) (file : List ℕ) (at : ℕ) (taken : Taken) (places : List ℕ) : Type 0 where
-  pub number-is : taken .number ≡ first (entriesChecks (entries racks file at))
-  pub next-is : taken .number ≡ 0 → taken .next ≡ entries racks file at .next
-  pub places-are : taken .number ≡ 0 → take (slots racks) places ≡ each entryOf (entries racks file at .values)
+pub record EntriesRead (racks : List Rack) (file : List ℕ) (at : ℕ) (read : TableRead) (places : List ℕ) : Type 0 where
+  pub refusal-is : read .refusal ≡ refusalAt racks file at (first (entriesChecks (entries racks file at)))
+  pub next-is : read .refusal .number ≡ 0 → read .next ≡ entries racks file at .next
+  pub places-are : read .refusal .number ≡ 0 → take (slots racks) places ≡ each entryOf (entries racks file at .values)
   pub long : length places ≡ SLOTS
 
 -- how many bytes lie behind a position

@@ -1,4 +1,4 @@
--- What the tables of bytes hold, and the number of a lent table, by the job. Assumes nothing: these are definitions.
+-- What the tables of bytes hold, and the refusal of a lent table, by the job. Assumes nothing: these are definitions.
 use mathlib.Core.Path.{_≡_}
 use mathlib.Core.Bool.{Bool, not}
 use mathlib.Core.List.{List, _∷_}
@@ -6,14 +6,15 @@ use Prim.Native.Nat.{ℕ, _*_, _≤_, _<_}
 use lib.Dec.{eqb}
 use lib.ListN.{length, getD}
 use Rattle.counting.specs.Tests.{_or_, pick}
-use Rattle.counting.specs.Checks.{first, refusal}
+use Rattle.counting.specs.Checks.{first, known, done}
 use Rattle.answers.specs.Answers.{answer, noCounts}
+use Rattle.answers.specs.declared.Refusal.{Refusal}
 use Rattle.answers.specs.declared.Answer.{Answer}
 use Rattle.racks.specs.Limits.{BYTES, SLOTS, FREE}
 use Rattle.racks.specs.Racks.{Rack, slots, rackOf}
 use Rattle.racks.specs.Table.{dest}
 use Rattle.racks.specs.parts.Legal.{Legal}
-use Rattle.racks.specs.Numbers.{badBytes, badPlaces, badCards, entryChecks, placesChecks}
+use Rattle.racks.specs.Numbers.{badBytes, badPlaces, badCards, entryChecks, placesChecks, placeFor}
 use Rattle.racks.specs.Job.{racksOf, Sound}
 use Rattle.racks.specs.declared.Job.{Job}
 
@@ -51,14 +52,18 @@ pub record OpenCards (job : Job) (b : ℕ) (places cards racking : List ℕ) : T
   pub bytes : b ≤ BYTES
   pub long : length cards ≡ slots (racksOf job) * b
 
+-- number n and its place in a table, by a job: where the racks are refused there is none
+unfoldable pub refusalBy : Job → List ℕ → ℕ → Refusal
+refusalBy job places n = record { number = n; place = pick (done (job .refused)) (placeFor (racksOf job) places n) 0 }
+
 -- the number of a table, by a job: what its racks are refused with, then 4 to 6
 unfoldable pub tableNumber : Job → List ℕ → ℕ
-tableNumber job places = first (refusal (job .refused) ∷ placesChecks (racksOf job) places)
+tableNumber job places = first (known (job .refused) ∷ placesChecks (racksOf job) places)
 
--- what `table_number` gives: the number, and where it is 0 what acceptance gives
-pub record Checked (job : Job) (places : List ℕ) (number : ℕ) (racking : List ℕ) : Type 0 where
-  pub number-is : number ≡ tableNumber job places
-  pub opened : number ≡ 0 → Open job places racking
+-- what `table_refusal` gives: the number and its place, and where the number is 0 what acceptance gives
+pub record Checked (job : Job) (places : List ℕ) (refusal : Refusal) (racking : List ℕ) : Type 0 where
+  pub refusal-is : refusal ≡ refusalBy job places (tableNumber job places)
+  pub opened : refusal .number ≡ 0 → Open job places racking
 
 -- the number of a table and its cards, by a job: 2 stands between 1 and the others that its racks are refused with, then 4 to 6
 unfoldable pub cardsNumber : Job → ℕ → List ℕ → List ℕ → ℕ
@@ -66,15 +71,15 @@ cardsNumber job b places cards =
     first
     ((eqb (job .refused) 1, 1)
     ∷ (badBytes b, 2)
-    ∷ refusal (job .refused)
+    ∷ known (job .refused)
     ∷ (badPlaces (racksOf job) places or badCards (racksOf job) b cards, 4)
     ∷ entryChecks (racksOf job) places)
 
--- what `cards_number` gives: the number, and where it is 0 what acceptance gives
-pub record CardsChecked (job : Job) (b : ℕ) (places cards : List ℕ) (number : ℕ) (racking : List ℕ) : Type 0 where
-  pub number-is : number ≡ cardsNumber job b places cards
-  pub opened : number ≡ 0 → OpenCards job b places cards racking
+-- what `cards_refusal` gives: the number and its place, and where the number is 0 what acceptance gives
+pub record CardsChecked (job : Job) (b : ℕ) (places cards : List ℕ) (refusal : Refusal) (racking : List ℕ) : Type 0 where
+  pub refusal-is : refusal ≡ refusalBy job places (cardsNumber job b places cards)
+  pub opened : refusal .number ≡ 0 → OpenCards job b places cards racking
 
 -- the table check, by a job
 unfoldable pub checkedBy : Job → List ℕ → Answer
-checkedBy job places = answer (tableNumber job places) noCounts
+checkedBy job places = answer (refusalBy job places (tableNumber job places)) noCounts

@@ -1,4 +1,4 @@
--- `jobfile::parts::bounded_number` meets its contract. Assumes nothing.
+-- `numerals::parts::bounded_numeral` meets its contract. Assumes nothing.
 use mathlib.Core.Path.{sym, ap, _∙_}
 use native.Mathlib.Omega.{arith}
 use borrow.Author.Needs.{needs}

@@ -1,4 +1,4 @@
--- `jobfile::parts::last_group` meets its contract. Assumes nothing.
+-- `numerals::parts::last_group` meets its contract. Assumes nothing.
 use native.Mathlib.Omega.{arith}
 use Rattle.numerals.specs.Numeral.{gotOf}
 use Rattle.numerals.proofs.Groups.{product-small, last-some, last-14, last-only}

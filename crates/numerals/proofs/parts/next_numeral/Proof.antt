@@ -1,4 +1,4 @@
--- `jobfile::parts::next_number` meets its contract. Assumes nothing.
+-- `numerals::parts::next_numeral` meets its contract. Assumes nothing.
 use mathlib.Core.Path.{_≡_, refl, sym, _∙_}
 use Prim.Native.Nat.{_-_}
 use native.Mathlib.Omega.{arith}

@@ -1,4 +1,4 @@
--- `jobfile::parts::refused_with` meets its contract. Assumes nothing.
+-- `numerals::parts::refused_with` meets its contract. Assumes nothing.
 use mathlib.Core.Path.{sym, ap}
 use borrow.Author.Needs.{needs}
 use Rattle.numerals.specs.Numeral.{gotOf}

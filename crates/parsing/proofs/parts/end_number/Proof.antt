@@ -1,4 +1,4 @@
--- `jobfile::parts::end_number` meets its contract. Assumes nothing.
+-- `parsing::parts::end_number` meets its contract. Assumes nothing.
 use borrow.Author.Needs.{needs}
 use Rattle.parsing.proofs.Cards.{end-15, end-16, end-0}
 use Rattle.parsing.proofs.parts.end_number.Statement.{statement}

@@ -1,4 +1,4 @@
--- `jobfile::parts::entry_of` meets its contract. Assumes nothing.
+-- `parsing::parts::entry_of` meets its contract. Assumes nothing.
 use borrow.Author.Tests.{eq-eqb, ne-eqb}
 use borrow.Author.Needs.{needs}
 use Rattle.parsing.specs.File.{entryOf}

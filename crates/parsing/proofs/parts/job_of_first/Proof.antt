@@ -1,4 +1,4 @@
--- `jobfile::parts::job_of_first` meets its contract. Assumes nothing.
+-- `parsing::parts::job_of_first` meets its contract. Assumes nothing.
 use mathlib.Core.Path.{sym}
 use lib.Seq.{length-take-le}
 use borrow.Author.Needs.{needs}

@@ -1,4 +1,4 @@
--- `jobfile::parts::left_of` meets its contract. Assumes nothing.
+-- `parsing::parts::left_of` meets its contract. Assumes nothing.
 use mathlib.Core.Path.{sym}
 use native.Mathlib.Omega.{arith}
 use lib.ListN.{length-drop}

@@ -1,4 +1,4 @@
--- `jobfile::parts::no_head` meets its contract. Assumes nothing.
+-- `parsing::parts::no_head` meets its contract. Assumes nothing.
 use mathlib.Core.Path.{ap}
 use borrow.Author.Needs.{needs}
 use Rattle.parsing.specs.parts.Parsing.{noHead}

@@ -1,4 +1,4 @@
--- `jobfile::parts::read_caps` meets its contract. Assumes nothing.
+-- `parsing::parts::read_caps` meets its contract. Assumes nothing.
 use mathlib.Core.Path.{_≡_, ap, _∙_}
 use Prim.Native.Nat.{_+_, _-_, _≤_}
 use native.Mathlib.Omega.{arith}

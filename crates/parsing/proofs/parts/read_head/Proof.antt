@@ -1,4 +1,4 @@
--- `jobfile::parts::read_head` meets its contract. Assumes nothing.
+-- `parsing::parts::read_head` meets its contract. Assumes nothing.
 use mathlib.Core.Path.{refl}
 use borrow.Author.Needs.{needs}
 use Rattle.numerals.proofs.Numerals.{value-got, refused-got}

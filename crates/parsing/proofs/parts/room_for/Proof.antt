@@ -1,4 +1,4 @@
--- `jobfile::parts::room_for` meets its contract. Assumes nothing.
+-- `parsing::parts::room_for` meets its contract. Assumes nothing.
 use borrow.Author.Tests.{lt-ltb, le-ltb}
 use borrow.Author.Needs.{needs}
 use Rattle.parsing.specs.parts.Parsing.{roomFor}

@@ -2,58 +2,60 @@ use mathlib.Core.Path.{_≡_, ap, sym, _∙_}
 use native.Mathlib.Omega.{arith}
 use lib.ListN.{length}
 use Rattle.counting.specs.Lists.{flat}
-use Rattle.answers.specs.Answers.{movesOf}
+use Rattle.answers.specs.Answers.{placeless, movesOf}
 use Rattle.answers.proofs.Answers.{listed-refused, listed-done}
 use Rattle.racks.specs.Job.{racksOf}
-use Rattle.tables.specs.parts.Tables.{Open, tableNumber}
+use Rattle.tables.specs.parts.Tables.{Open, refusalBy, tableNumber}
+use Rattle.tables.proofs.Tables.{checked-number}
+use Rattle.tables.proofs.Refusals.{kept-by}
 use Rattle.plans.specs.Plan.{plan}
 use Rattle.plans.proofs.Plans.{plan-few}
 use Rattle.planner.specs.parts.Planned.{planNumber, plannedBy}
-use Rattle.planner.proofs.Planned.{planned-table, planned-short, planned-none}
+use Rattle.planner.proofs.Planned.{planned-short, planned-none}
 use borrow.Author.Needs.{needs}
 use Rattle.planner.proofs.parts.plan_job.Statement.{statement}
 use Rattle.planner.proofs.parts.plan_job.Tie as tie
 
 -- the table is accepted
 module _ (c : tie.Else1) where
-  opened : Open (c .before .before .before .before .before .args .job) (c .before .before .before .before .before .args .places .now) (c .before .table-number .last .1 .1 .0)
-  opened = c .before .table-number .ensures .opened (c .if1 .left)
+  opened : Open (c .before .before .before .before .before .before .args .job) (c .before .before .before .before .before .before .args .places .now) (c .before .before .table-refusal .last .1 .1 .0)
+  opened = c .before .before .table-refusal .ensures .opened (c .if1 .left)
 
-  none : tableNumber (c .before .before .before .before .before .args .job) (c .before .before .before .before .before .args .places .now) ≡ 0
-  none = sym (c .before .table-number .ensures .number-is) ∙ c .if1 .left
+  none : tableNumber (c .before .before .before .before .before .before .args .job) (c .before .before .before .before .before .before .args .places .now) ≡ 0
+  none = sym (checked-number (c .before .before .table-refusal .ensures)) ∙ c .if1 .left
 
-table-number-requires : tie.Need-table-number-requires
-table-number-requires c κs = search needs
+table-refusal-requires : tie.Need-table-refusal-requires
+table-refusal-requires c κs = search needs
 
-of-requires : tie.Need-of-requires
-of-requires c κs = search needs
+refused-requires : tie.Need-refused-requires
+refused-requires c κs = search needs
 
 returns : tie.Need-returns
-unfolding plannedBy
+unfolding plannedBy planNumber
 returns c =
-    let s = c .before .before .before .before .before .before .args in
+    let s = c .before .before .before .before .before .before .before .args in
     let pairs = plan (racksOf (s .job)) (s .places .now) in
-    listed-refused (planNumber (s .job) (s .places .now) (s .lent .now)) (movesOf (length pairs)) (flat pairs) (s .lent .now) _ _ (c .of .ensures)
-    (planned-table (s .job) (s .places .now) (s .lent .now) _ (c .before .before .table-number .ensures .number-is) (c .before .if1 .taken)) (c .before .if1 .taken)
+    listed-refused (refusalBy (s .job) (s .places .now) (planNumber (s .job) (s .places .now) (s .lent .now))) (movesOf (length pairs)) (flat pairs) (s .lent .now) _ _ (c .refused .ensures)
+    (kept-by (s .job) (s .places .now) _ _ _ (c .before .before .before .table-refusal .ensures .refusal-is) (c .before .if1 .taken)) (c .before .if1 .taken)
 
 count-plan-requires : tie.Need-count-plan-requires
 count-plan-requires c κs = opened (c .before)
 
 mul-if2 : tie.Need-mul-if2
 mul-if2 c =
-    let s = c .before .before .before .before .before .before .before .args in
+    let s = c .before .before .before .before .before .before .before .before .args in
     omega (arith, c .count-plan .ensures, plan-few (racksOf (s .job)) (s .places .now), opened (c .before .before) .sound .small)
 
-of-requires-2 : tie.Need-of-requires-2
-of-requires-2 c κs = search needs
+of-requires : tie.Need-of-requires
+of-requires c κs = search needs
 
 returns-2 : tie.Need-returns-2
 unfolding plannedBy
 returns-2 c =
     let e = c .before .before .before .before in
-    let s = c .before .before .before .before .before .before .before .before .before .args in
+    let s = c .before .before .before .before .before .before .before .before .before .before .args in
     let pairs = plan (racksOf (s .job)) (s .places .now) in
-    listed-refused (planNumber (s .job) (s .places .now) (s .lent .now)) (movesOf (length pairs)) (flat pairs) (s .lent .now) 13 _ (c .of2 .ensures)
+    listed-refused (refusalBy (s .job) (s .places .now) (planNumber (s .job) (s .places .now) (s .lent .now))) (movesOf (length pairs)) (flat pairs) (s .lent .now) (placeless 13) _ (c .of .ensures)
     (planned-short (s .job) (s .places .now) (s .lent .now) (none e) (omega (arith, c .before .if2 .taken, c .before .before .count-plan .ensures))) (λ z. omega arith)
 
 write-plan-requires : tie.Need-write-plan-requires
@@ -72,10 +74,10 @@ returns-3 : tie.Need-returns-3
 unfolding plannedBy
 returns-3 c =
     let e = c .before .before .before .before .before .before .before .before .before .before in
-    let s = c .before .before .before .before .before .before .before .before .before .before .before .before .before .before .before .args in
+    let s = c .before .before .before .before .before .before .before .before .before .before .before .before .before .before .before .before .args in
     let pairs = plan (racksOf (s .job)) (s .places .now) in
     let w = c .before .before .before .before .write-plan .ensures in
-    listed-done (planNumber (s .job) (s .places .now) (s .lent .now)) (movesOf (length pairs)) (flat pairs) (s .lent .now) _ _ _ (c .done .ensures)
+    listed-done (refusalBy (s .job) (s .places .now) (planNumber (s .job) (s .places .now) (s .lent .now))) (movesOf (length pairs)) (flat pairs) (s .lent .now) _ _ _ (c .done .ensures)
     (c .before .of-moves .ensures ∙ ap movesOf (w .count-is)) (w .list)
     (planned-none (s .job) (s .places .now) (s .lent .now) (none e) (omega (arith, c .before .before .before .before .before .before .before .if2 .left, c .before .before .before .before .before .before .before .before .count-plan .ensures)))
 
@@ -83,12 +85,12 @@ pub plan-job-spec : {M : Type 1} → statement M
 plan-job-spec =
     tie.close
     (tie.spec
-    table-number-requires
-    of-requires
+    table-refusal-requires
+    refused-requires
     returns
     count-plan-requires
     mul-if2
-    of-requires-2
+    of-requires
     returns-2
     write-plan-requires
     of-moves-requires

@@ -1,7 +1,8 @@
-use mathlib.Core.Path.{refl, sym, _∙_}
+use mathlib.Core.Path.{refl}
 use Rattle.racks.specs.Job.{racksOf}
 use Rattle.racks.proofs.Jobs.{sound-refused}
-use Rattle.tables.specs.parts.Tables.{OpenCards, cardsNumber}
+use Rattle.tables.specs.parts.Tables.{OpenCards, refusalBy, cardsNumber}
+use Rattle.tables.proofs.Refusals.{none-by}
 use Rattle.moves.specs.Moves.{held}
 use Rattle.carrying.proofs.Outcomes.{outcome-refused, outcome-done}
 use Rattle.shuffle.specs.Shuffle.{settledHeld}
@@ -12,14 +13,14 @@ use Rattle.runner.proofs.parts.run_job.Statement.{statement}
 use Rattle.runner.proofs.parts.run_job.Tie as tie
 
 -- the table and its cards are accepted
-opened : (c : tie.Else1) → OpenCards (c .before .before .before .before .before .before .before .args .job) (c .before .before .before .before .before .before .before .args .b) (c .before .before .before .before .before .before .before .args .places .now) (c .before .before .before .before .before .before .before .args .cards .now) (c .before .cards-number .last .1 .1 .1 .1 .0)
-opened c = c .before .cards-number .ensures .opened (c .if1 .left)
+opened : (c : tie.Else1) → OpenCards (c .before .before .before .before .before .before .before .before .args .job) (c .before .before .before .before .before .before .before .before .args .b) (c .before .before .before .before .before .before .before .before .args .places .now) (c .before .before .before .before .before .before .before .before .args .cards .now) (c .before .before .cards-refusal .last .1 .1 .1 .1 .0)
+opened c = c .before .before .cards-refusal .ensures .opened (c .if1 .left)
 
-cards-number-requires : tie.Need-cards-number-requires
-cards-number-requires c κs = (λ z. c .before .before .before .before .before .pre z .0, refl)
+cards-refusal-requires : tie.Need-cards-refusal-requires
+cards-refusal-requires c κs = (λ z. c .before .before .before .before .before .pre z .0, refl)
 
-of-requires : tie.Need-of-requires
-of-requires c κs = search needs
+refused-requires : tie.Need-refused-requires
+refused-requires c κs = search needs
 
 same-length : tie.Need-same-length
 same-length c = search needs
@@ -30,15 +31,15 @@ same-length-2 c = search needs
 returns : tie.Need-returns
 unfolding ranBy
 returns c =
-    let s = c .before .before .before .before .before .before .before .before .args in
+    let s = c .before .before .before .before .before .before .before .before .before .args in
     let h = held (s .places .now) (s .cards .now) in
-    outcome-refused (cardsNumber (s .job) (s .b) (s .places .now) (s .cards .now)) (counts (racksOf (s .job)) (s .b) h) (settledHeld (racksOf (s .job)) (s .b) (gathered (racksOf (s .job)) (s .b) h)) h _ _
-    (c .of .ensures) (c .before .before .cards-number .ensures .number-is) (c .before .if1 .taken)
+    outcome-refused (refusalBy (s .job) (s .places .now) (cardsNumber (s .job) (s .b) (s .places .now) (s .cards .now))) (counts (racksOf (s .job)) (s .b) h) (settledHeld (racksOf (s .job)) (s .b) (gathered (racksOf (s .job)) (s .b) h)) h _ _
+    (c .refused .ensures) (c .before .before .before .cards-refusal .ensures .refusal-is) (c .before .if1 .taken)
 
 run-cards-requires : tie.Need-run-cards-requires
 run-cards-requires c κs =
     let o = opened (c .before .before .before) in
-    (o .table, c .before .before .before .before .before .before .before .before .before .before .pre (sound-refused _ (o .table .sound)) .1, o .long, o .bytes)
+    (o .table, c .before .before .before .before .before .before .before .before .before .before .before .pre (sound-refused _ (o .table .sound)) .1, o .long, o .bytes)
 
 done-requires : tie.Need-done-requires
 done-requires c κs = search needs
@@ -53,18 +54,18 @@ returns-2 : tie.Need-returns-2
 unfolding ranBy
 returns-2 c =
     let e = c .before .before .before .before .before .before .before .before .before in
-    let s = c .before .before .before .before .before .before .before .before .before .before .before .before .before .before .before .before .args in
+    let s = c .before .before .before .before .before .before .before .before .before .before .before .before .before .before .before .before .before .args in
     let h = held (s .places .now) (s .cards .now) in
     let m = c .before .before .before .before .before .run-cards .ensures in
-    outcome-done (cardsNumber (s .job) (s .b) (s .places .now) (s .cards .now)) (counts (racksOf (s .job)) (s .b) h) (settledHeld (racksOf (s .job)) (s .b) (gathered (racksOf (s .job)) (s .b) h)) h _ _ (held _ _)
-    (c .done .ensures) (m .tally-is) (m .held-is) (sym (e .before .cards-number .ensures .number-is) ∙ e .if1 .left)
+    outcome-done (refusalBy (s .job) (s .places .now) (cardsNumber (s .job) (s .b) (s .places .now) (s .cards .now))) (counts (racksOf (s .job)) (s .b) h) (settledHeld (racksOf (s .job)) (s .b) (gathered (racksOf (s .job)) (s .b) h)) h _ _ (held _ _)
+    (c .done .ensures) (m .tally-is) (m .held-is) (none-by _ _ _ (e .before .before .cards-refusal .ensures .refusal-is) (e .if1 .left))
 
 pub run-job-spec : {M : Type 1} → statement M
 run-job-spec =
     tie.close
     (tie.spec
-    cards-number-requires
-    of-requires
+    cards-refusal-requires
+    refused-requires
     same-length
     same-length-2
     returns

@@ -2,11 +2,11 @@ use borrow.Author.Needs.{needs}
 use Rattle.slots.proofs.parts.refused.Statement.{statement}
 use Rattle.slots.proofs.parts.refused.Tie as tie
 
-of-requires : tie.Need-of-requires
-of-requires c κs = search needs
+refused-requires : tie.Need-refused-requires
+refused-requires c κs = search needs
 
 returns : tie.Need-returns
-returns c = rw (c .of .ensures)
+returns c = rw (c .refused .ensures)
 
 pub refused-spec : {M : Type 1} → statement M
-refused-spec = tie.close (tie.spec of-requires returns)
+refused-spec = tie.close (tie.spec refused-requires returns)

@@ -5,15 +5,15 @@ use borrow.Author.Needs.{needs}
 use Rattle.tables.proofs.parts.check_job.Statement.{statement}
 use Rattle.tables.proofs.parts.check_job.Tie as tie
 
-table-number-requires : tie.Need-table-number-requires
-table-number-requires c κs = search needs
+table-refusal-requires : tie.Need-table-refusal-requires
+table-refusal-requires c κs = search needs
 
-of-requires : tie.Need-of-requires
-of-requires c κs = search needs
+refused-requires : tie.Need-refused-requires
+refused-requires c κs = search needs
 
 returns : tie.Need-returns
 unfolding checkedBy
-returns c = c .of .ensures ∙ ap (λ n. answer n noCounts) (c .before .table-number .ensures .number-is)
+returns c = c .refused .ensures ∙ ap (λ x. answer x noCounts) (c .before .table-refusal .ensures .refusal-is)
 
 pub check-job-spec : {M : Type 1} → statement M
-check-job-spec = tie.close (tie.spec table-number-requires of-requires returns)
+check-job-spec = tie.close (tie.spec table-refusal-requires refused-requires returns)
