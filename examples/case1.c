@@ -1,6 +1,7 @@
 /*
  * Case 1 of the paper cards: reads the job file of 21 bytes, writes it again from what was read, runs
- * it, prints the number, the counts, the table and the cards, and then the listing of the file.
+ * it, prints the number, the counts, the table and the cards, and then the listing of the file. At last
+ * it makes an entry of the table wrong, in two ways, and prints the refusals, which say that entry.
  *
  *     rt staticlib seineflute
  *     cc -std=c99 -Wall -Wextra -Iinclude examples/case1.c target/staticlib/libseineflute.a -o target/case1
@@ -26,6 +27,15 @@ static void print_answer(const char *call, seineflute_answer a)
            a.phases, a.moves, a.copies);
 }
 
+/* A refusal for a person: 5 and 6 say which entry they speak of. */
+static void print_refusal(const char *call, size_t number, size_t place)
+{
+    printf("%s: refused %zu (%s)", call, number, seineflute_words(number));
+    if (number == SEINEFLUTE_BAD_ENTRY || number == SEINEFLUTE_NAMED_TWICE)
+        printf(", entry %zu", place);
+    printf("\n");
+}
+
 static void print_pairs(const uint16_t *list, size_t pairs)
 {
     for (size_t i = 0; i < pairs; i++)
@@ -45,6 +55,16 @@ static int written(const uint16_t *caps, size_t n, size_t b, const uint16_t *pla
     return w.size == sizeof job && memcmp(out, job, sizeof job) == 0;
 }
 
+/* Checks the table, which is settled, with its entry g changed to that. */
+static void changed(const uint16_t *caps, size_t n, uint16_t *places, size_t s, size_t g, uint16_t entry)
+{
+    uint16_t right = places[g];
+    places[g] = entry;
+    seineflute_answer a = seineflute_check_table(caps, n, places, s);
+    print_refusal("check", a.number, a.place);
+    places[g] = right;
+}
+
 int main(void)
 {
     static uint16_t caps[SEINEFLUTE_MAX_RACKS];
@@ -55,12 +75,12 @@ int main(void)
     seineflute_file_answer f =
         seineflute_read_file(job, sizeof job, caps, SEINEFLUTE_MAX_RACKS, places, SEINEFLUTE_MAX_SLOTS);
     if (f.number != SEINEFLUTE_DONE) {
-        printf("refused %zu: %s\n", f.number, seineflute_words(f.number));
+        print_refusal("read", f.number, f.place);
         return 1;
     }
     size_t n = f.racks, b = f.bytes, s = f.slots;
-    printf("read: racks %zu bytes %zu slots %zu place %zu\n", n, b, s, f.place);
-    memcpy(cards, job + f.place, s * b);
+    printf("read: racks %zu bytes %zu slots %zu start %zu\n", n, b, s, f.start);
+    memcpy(cards, job + f.start, s * b);
 
     if (!written(caps, n, b, places, s, cards)) {
         printf("the file that was written is another\n");
@@ -97,5 +117,8 @@ int main(void)
     static uint8_t text[SEINEFLUTE_TEXT_ROOM];
     seineflute_size_answer l = seineflute_list_job(job, sizeof job, text, sizeof text);
     fwrite(text, 1, l.size, stdout);
+
+    changed(caps, n, places, s, 4, 7); /* a spare */
+    changed(caps, n, places, s, 4, 1); /* what entry 1 names */
     return 0;
 }

@@ -143,6 +143,25 @@ static void looked_at(struct job *j)
     expect(a.number == SEINEFLUTE_NO_SLOT, "a move from no slot");
 }
 
+/* The table with another entry in its last slot: refused with that number, and with that slot as its place. */
+static void last_entry(struct job *j, uint16_t entry, size_t number)
+{
+    uint16_t *last = j->places + j->s - 1, right = *last;
+    *last = entry;
+    seineflute_answer a = seineflute_check_table(j->caps, j->n, j->places, j->s);
+    expect(a.number == number && a.place == j->s - 1, "which entry the table check refuses");
+    seineflute_slot_answer q = seineflute_slot_question(j->caps, j->n, j->places, j->s, 0);
+    expect(q.number == number && q.place == j->s - 1 && q.kind == SEINEFLUTE_KIND_NONE,
+           "which entry the slot question refuses");
+    a = seineflute_whole_run(j->caps, j->n, j->b, j->places, j->s, j->cards, j->s * j->b);
+    expect(a.number == number && a.place == j->s - 1, "which entry the whole run refuses");
+    uint8_t none[1];
+    seineflute_size_answer w =
+        seineflute_write_file(j->caps, j->n, j->b, j->places, j->s, j->cards, j->s * j->b, none, 0);
+    expect(w.number == number && w.place == j->s - 1 && w.size == 0, "which entry the file writer refuses");
+    *last = right;
+}
+
 /* The copy list, then once more in a list of exactly its length; gives the copies. */
 static size_t listed(struct job *j)
 {
@@ -160,7 +179,7 @@ static size_t listed(struct job *j)
     return copies;
 }
 
-/* Puts a number of a job file at *at; gives the place behind it. */
+/* Puts a number of a job file at *at; gives where the next one goes. */
 static uint8_t *put(uint8_t *at, size_t x)
 {
     while (x >= 128) {
@@ -197,7 +216,7 @@ static void as_file(struct job *j)
         at = put(at, j->caps[p]);
     for (size_t g = 0; g < j->s; g++)
         at = put(at, j->places[g] == SEINEFLUTE_FREE ? 0 : (size_t)j->places[g] + 1);
-    size_t place = (size_t)(at - most), size = place + j->s * j->b;
+    size_t start = (size_t)(at - most), size = start + j->s * j->b;
     memcpy(at, j->cards, j->s * j->b);
     uint8_t *file = room(size);
     memcpy(file, most, size);
@@ -206,11 +225,11 @@ static void as_file(struct job *j)
 
     uint16_t *caps = room(j->n * sizeof *caps), *places = room(j->s * sizeof *places);
     seineflute_file_answer f = seineflute_read_file(file, size - 1, caps, j->n, places, j->s);
-    expect(f.number == SEINEFLUTE_FILE_ENDS && f.place == 0, "a file that is cut");
+    expect(f.number == SEINEFLUTE_FILE_ENDS && f.place == 0 && f.start == 0, "a file that is cut");
     f = seineflute_read_file(file, size, caps, j->n, places, j->s - 1);
     expect(f.number == SEINEFLUTE_FILE_ROOM, "room for places that is too short");
     f = seineflute_read_file(file, size, caps, j->n, places, j->s);
-    expect(f.number == SEINEFLUTE_DONE && f.racks == j->n && f.bytes == j->b && f.slots == j->s && f.place == place,
+    expect(f.number == SEINEFLUTE_DONE && f.racks == j->n && f.bytes == j->b && f.slots == j->s && f.start == start,
            "the file");
     expect(memcmp(caps, j->caps, j->n * sizeof *caps) == 0, "the capacities of the file");
     expect(memcmp(places, j->places, j->s * sizeof *places) == 0, "the places of the file");
@@ -236,6 +255,9 @@ static void run(const char *name, size_t n, size_t m, size_t b, size_t on, size_
 {
     struct job whole = make(n, m, b, on, turn);
     looked_at(&whole);
+    last_entry(&whole, (uint16_t)(whole.s - 1), SEINEFLUTE_BAD_ENTRY);
+    if (m > 0)
+        last_entry(&whole, whole.places[0], SEINEFLUTE_NAMED_TWICE);
     as_file(&whole);
     seineflute_answer a =
         seineflute_whole_run(whole.caps, n, b, whole.places, whole.s, whole.cards, whole.s * b);

@@ -56,11 +56,16 @@
  *
  * Numbers given back
  *
- * Every call gives a number, which seineflute_words puts into words, with counts of phases, moves and
- * copies. A count is 0 where the call does not speak of it. A number other than SEINEFLUTE_DONE is a
- * refusal: then all counts and all other fields are 0, and nothing lent has changed. Checks are made in
- * the order of the numbers, and the first that applies is given; the file reader has an order of its
- * own.
+ * Every call gives a number, which seineflute_words puts into words, a place, and counts of phases,
+ * moves and copies. A count is 0 where the call does not speak of it. A number other than
+ * SEINEFLUTE_DONE is a refusal: then all counts and all other fields but the place are 0, and nothing
+ * lent has changed. Checks are made in the order of the numbers, and the first that applies is given;
+ * the file reader has an order of its own.
+ *
+ * The place says which entry of the table is refused, by its slot. With SEINEFLUTE_BAD_ENTRY it is the
+ * lowest bad entry, with SEINEFLUTE_NAMED_TWICE the lowest entry that repeats an earlier one: the later
+ * of the two. In a file it is the slot too, not a byte. With every other number, and where the call is
+ * done, it is 0; as 0 is a slot as well, the number tells whether there is a place.
  *
  * What a call writes into a lent list starts at its front, and the rest is unchanged.
  */
@@ -74,11 +79,17 @@
 extern "C" {
 #endif
 
-/* The version of this header, which is that of the Rust crate beside it. */
-#define SEINEFLUTE_VERSION "0.3.1"
+/*
+ * The version of this header, which is that of the Rust crate beside it. The structs of 0.4.0 are not
+ * those of 0.3: each answer that has a number has a place after it, so what was compiled with an
+ * earlier header has to be compiled again: a call would write behind its struct. Where the card bytes
+ * of a file begin was `place`, and is `start`: a caller that reads `place` for it still compiles, and
+ * has to be changed.
+ */
+#define SEINEFLUTE_VERSION "0.4.0"
 #define SEINEFLUTE_VERSION_MAJOR 0
-#define SEINEFLUTE_VERSION_MINOR 3
-#define SEINEFLUTE_VERSION_PATCH 1
+#define SEINEFLUTE_VERSION_MINOR 4
+#define SEINEFLUTE_VERSION_PATCH 0
 
 /* Limits. */
 enum {
@@ -113,8 +124,9 @@ enum {
     SEINEFLUTE_BAD_SIZE = 3,          /* a rack's user slots above 1,023, or the total above 4,032 */
     SEINEFLUTE_BAD_LENGTH = 4,        /* places is not S long, or cards is lent and not S * B long */
     SEINEFLUTE_BAD_ENTRY = 5,         /* an entry is neither free nor a user slot; in a file, it is not 0 and
-                                         one less than it is no user slot */
-    SEINEFLUTE_NAMED_TWICE = 6,       /* two entries name one slot */
+                                         one less than it is no user slot; place: the lowest such entry */
+    SEINEFLUTE_NAMED_TWICE = 6,       /* two entries name one slot; place: the lowest entry that repeats an
+                                         earlier one */
     SEINEFLUTE_NO_SLOT = 7,           /* a slot number in the call is S or more */
     SEINEFLUTE_SOURCE_FREE = 8,       /* the source slot is free */
     SEINEFLUTE_SOURCE_HOME = 9,       /* the source's card is on its rack already */
@@ -122,12 +134,13 @@ enum {
     SEINEFLUTE_TARGET_TAKEN = 11,     /* the target is not free */
     SEINEFLUTE_SOME_AWAY = 12,        /* a card is away (copy list and shuffle only) */
     SEINEFLUTE_TOO_SHORT = 13,        /* the lent list is too short for what would be written */
-    SEINEFLUTE_FILE_FORM = 14,        /* file: a number not in its shortest form, or of more than three groups */
+    SEINEFLUTE_FILE_FORM = 14,        /* file: a number padded beyond its shortest form */
     SEINEFLUTE_FILE_ENDS = 15,        /* file: it ends too early */
     SEINEFLUTE_FILE_LEFT_OVER = 16,   /* file: bytes left over */
     SEINEFLUTE_FILE_ROOM = 17,        /* file: room for capacities below N, or for places below S */
     SEINEFLUTE_FILE_LARGE = 18,       /* in a listing's text only: file above 32,768 bytes */
-    SEINEFLUTE_BUFFER_SHORT = 19      /* the buffer is shorter than the file (file writer only) */
+    SEINEFLUTE_BUFFER_SHORT = 19,     /* the buffer is shorter than the file (file writer only) */
+    SEINEFLUTE_FILE_GROUPS = 20       /* file: a number of more than three groups */
 };
 
 /* The words of a number that a call gives back; of a number that none gives, "no such number". */
@@ -140,7 +153,7 @@ static inline const char *seineflute_words(size_t number)
     case SEINEFLUTE_BAD_SIZE: return "a rack has more than 1,023 user slots, or all racks more than 4,032";
     case SEINEFLUTE_BAD_LENGTH: return "places has not one entry for each slot, or cards not one card for each slot";
     case SEINEFLUTE_BAD_ENTRY: return "an entry is neither free nor a user slot";
-    case SEINEFLUTE_NAMED_TWICE: return "two entries name one slot";
+    case SEINEFLUTE_NAMED_TWICE: return "an entry repeats an earlier one";
     case SEINEFLUTE_NO_SLOT: return "a slot number in the call is above that of the last slot";
     case SEINEFLUTE_SOURCE_FREE: return "the source slot is free";
     case SEINEFLUTE_SOURCE_HOME: return "the source's card is on its rack already";
@@ -148,12 +161,13 @@ static inline const char *seineflute_words(size_t number)
     case SEINEFLUTE_TARGET_TAKEN: return "the target is not free";
     case SEINEFLUTE_SOME_AWAY: return "a card is away: its slot is on another rack";
     case SEINEFLUTE_TOO_SHORT: return "the lent list is too short for what would be written";
-    case SEINEFLUTE_FILE_FORM: return "file: a number is not in its shortest form, or has more than three groups";
+    case SEINEFLUTE_FILE_FORM: return "file: a number is padded beyond its shortest form";
     case SEINEFLUTE_FILE_ENDS: return "file: it ends too early";
     case SEINEFLUTE_FILE_LEFT_OVER: return "file: bytes are left over";
     case SEINEFLUTE_FILE_ROOM: return "file: the room for capacities or for places is too short";
     case SEINEFLUTE_FILE_LARGE: return "file: it has more than 32,768 bytes";
     case SEINEFLUTE_BUFFER_SHORT: return "the buffer is shorter than the file";
+    case SEINEFLUTE_FILE_GROUPS: return "file: a number has more than three groups";
     default: return "no such number";
     }
 }
@@ -177,6 +191,7 @@ enum {
 /* What every call gives. */
 typedef struct seineflute_answer {
     size_t number;
+    size_t place; /* with 5 and 6, the slot of the entry; else 0 */
     size_t phases;
     size_t moves;
     size_t copies;
@@ -185,6 +200,7 @@ typedef struct seineflute_answer {
 /* What the slot question gives. */
 typedef struct seineflute_slot_answer {
     size_t number;
+    size_t place;
     size_t phases;
     size_t moves;
     size_t copies;
@@ -196,18 +212,20 @@ typedef struct seineflute_slot_answer {
 /* What the file reader gives. */
 typedef struct seineflute_file_answer {
     size_t number;
+    size_t place;
     size_t phases;
     size_t moves;
     size_t copies;
     size_t racks; /* N */
     size_t bytes; /* B */
     size_t slots; /* S */
-    size_t place; /* where the card bytes begin: they are file[place] to the file's end */
+    size_t start; /* where the card bytes begin: they are file[start] to the file's end */
 } seineflute_file_answer;
 
 /* What the calls that fill a buffer of bytes give: the file writer and the listing. */
 typedef struct seineflute_size_answer {
     size_t number;
+    size_t place;
     size_t phases;
     size_t moves;
     size_t copies;
@@ -325,9 +343,10 @@ seineflute_answer seineflute_whole_run(
  * Job file. Reads N, B, the capacities, S entries (0 free, else destination + 1) and S * B card bytes,
  * and writes the capacities and the places to the front of the two lists. Numbers are groups of seven
  * bits, lowest first, top bit set where another follows, shortest form, at most three groups. The
- * card bytes stay where they are, from `place` to the file's end. Each number is checked as it is
- * read: form (14, 15), then 1, 2, 3 or 5; after the last entry come 6, then 15 or 16 for the card
- * bytes, then 17. All counts are 0. MAX_RACKS capacities and MAX_SLOTS places are room for every job.
+ * card bytes stay where they are, from `start` to the file's end. Each number is checked as it is
+ * read: form (14, 15, 20), then 1, 2, 3 or 5; after the last entry come 6, then 15 or 16 for the card
+ * bytes, then 17. A third group with its top bit set is 20 at once, whatever follows. All counts are 0.
+ * MAX_RACKS capacities and MAX_SLOTS places are room for every job.
  */
 seineflute_file_answer seineflute_read_file(
     const uint8_t *file, size_t file_len,
@@ -353,10 +372,11 @@ seineflute_size_answer seineflute_write_file(
 /*
  * Listing. Writes to the front of the buffer the text that the program shelve prints for a job file: a
  * line for each phase, the copies, the cards and the counts; or, for a file that the reader refuses or
- * that has more than 32,768 bytes (18), the one line `refused` with that number. Both are texts, and
- * their number is 0: the only refusal of the call itself is 13, where the buffer is too short for the
- * text. The text has `size` bytes, with no zero byte behind it. All counts are 0: they stand in the
- * text. SEINEFLUTE_TEXT_ROOM bytes are room for every text.
+ * that has more than 32,768 bytes (18), the one line `refused` with that number; its place, which
+ * seineflute_read_file gives, is not in the line. Both are texts, and their number is 0: the only refusal
+ * of the call itself is 13, where the buffer is too short for the text. The text has `size` bytes, with
+ * no zero byte behind it. The place and all counts are 0: the counts stand in the text.
+ * SEINEFLUTE_TEXT_ROOM bytes are room for every text.
  */
 seineflute_size_answer seineflute_list_job(
     const uint8_t *file, size_t file_len,

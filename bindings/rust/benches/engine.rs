@@ -12,6 +12,7 @@
 
 pub use seineflute::raw::{Answer, FileAnswer, SizeAnswer, SlotAnswer};
 use std::cmp::Ordering;
+use std::mem::replace;
 use std::ops::Range;
 
 const RACKS: usize = 64;
@@ -31,11 +32,34 @@ const NONE: u16 = 65_535;
 const SLOT_MASK: usize = SLOTS - 1;
 const RACK_MASK: usize = RACKS - 1;
 
-fn refused(number: usize) -> Answer {
-    Answer {
-        number,
-        ..Answer::default()
-    }
+/// Why a call does nothing: the number, and the place that goes with 5 and 6.
+struct Refused {
+    number: usize,
+    place: usize,
+}
+
+/// All else of an answer is 0.
+macro_rules! say_refused {
+    ($($answer:ident),*) => {
+        $(impl From<Refused> for $answer {
+            #[inline]
+            fn from(Refused { number, place }: Refused) -> $answer {
+                $answer {
+                    number,
+                    place,
+                    ..$answer::default()
+                }
+            }
+        })*
+    };
+}
+
+say_refused!(Answer, SlotAnswer, FileAnswer, SizeAnswer);
+
+/// A number that has no place, as a refusal or as the answer that says so.
+#[inline]
+fn refused<A: From<Refused>>(number: usize) -> A {
+    Refused { number, place: 0 }.into()
 }
 
 // ---------------------------------------------------------------------------
@@ -52,12 +76,12 @@ struct Layout {
 impl Layout {
     /// After 1: gives 3.
     #[inline]
-    fn new(caps: &[u16]) -> Result<Layout, usize> {
+    fn new(caps: &[u16]) -> Result<Layout, Refused> {
         let mut base = [0; RACKS + 1];
         let mut slots = 0;
         for (p, &m) in caps.iter().enumerate() {
             if m > MAX_CAPACITY {
-                return Err(3);
+                return Err(refused(3));
             }
             slots += usize::from(m) + 1;
             // At most 64 times 1,024: the last sum may not fit, but then it is
@@ -65,7 +89,7 @@ impl Layout {
             base[p + 1] = slots as u16;
         }
         if slots - caps.len() > MAX_TOTAL {
-            return Err(3);
+            return Err(refused(3));
         }
         Ok(Layout {
             racks: caps.len(),
@@ -90,6 +114,10 @@ impl Layout {
         self.base[1..=self.racks].partition_point(|&next| usize::from(next) <= slot)
     }
 
+    fn is_user_slot(&self, slot: usize) -> bool {
+        slot < self.slots && slot != self.spare(self.rack_of(slot))
+    }
+
     #[inline]
     fn fill_racks(&self, rack_of: &mut [u8; SLOTS]) {
         for p in 0..self.racks {
@@ -99,18 +127,18 @@ impl Layout {
 }
 
 #[inline]
-fn check_racks(racks: usize) -> Result<(), usize> {
+fn check_racks(racks: usize) -> Result<(), Refused> {
     if racks == 0 || racks > RACKS {
-        Err(1)
+        Err(refused(1))
     } else {
         Ok(())
     }
 }
 
 #[inline]
-fn check_card(b: usize) -> Result<(), usize> {
+fn check_card(b: usize) -> Result<(), Refused> {
     if b == 0 || b > MAX_CARD {
-        Err(2)
+        Err(refused(2))
     } else {
         Ok(())
     }
@@ -120,20 +148,21 @@ const NAMED: u8 = 1;
 const SPARE: u8 = 2;
 
 /// 5 and 6. Two passes without a branch: the first, for entries outside the
-/// slots, is a vector loop; the second marks what is named.
+/// slots, is a vector loop; the second marks what is named. Neither says where:
+/// only a table that is refused is looked through for that.
 #[inline]
-fn check_entries(layout: &Layout, places: &[u16]) -> Result<(), usize> {
+fn check_entries(layout: &Layout, places: &[u16]) -> Result<(), Refused> {
     let top = layout.slots as u16;
     let mut outside = false;
     for &entry in places {
         outside |= (entry >= top) & (entry != FREE);
     }
     if outside {
-        return Err(5);
+        return Err(bad_entry(layout, places));
     }
 
-    // A free slot marks a place of its own in the upper half. One place for
-    // all of them would make every mark wait for the one before it.
+    // A free slot has a mark of its own in the upper half. One for all of them
+    // would make every mark wait for the one before it.
     let mut marks = [0u8; 2 * SLOTS];
     for p in 0..layout.racks {
         marks[layout.spare(p)] = SPARE;
@@ -150,20 +179,38 @@ fn check_entries(layout: &Layout, places: &[u16]) -> Result<(), usize> {
         *mark |= NAMED;
     }
     if found & SPARE != 0 {
-        Err(5)
+        Err(bad_entry(layout, places))
     } else if found & NAMED != 0 {
-        Err(6)
+        Err(repeated_entry(places))
     } else {
         Ok(())
     }
 }
 
+/// 5 of a table that has a bad entry, with the lowest of them.
+#[cold]
+fn bad_entry(layout: &Layout, places: &[u16]) -> Refused {
+    let bad = |&entry: &u16| entry != FREE && !layout.is_user_slot(usize::from(entry));
+    let place = places.iter().position(bad).expect("an entry is bad");
+    Refused { number: 5, place }
+}
+
+/// 6 of a table of slots that names one twice, with the lowest entry that
+/// repeats an earlier one.
+#[cold]
+fn repeated_entry(places: &[u16]) -> Refused {
+    let mut named = [false; SLOTS];
+    let repeats = |&entry: &u16| entry != FREE && replace(&mut named[usize::from(entry)], true);
+    let place = places.iter().position(repeats).expect("an entry repeats");
+    Refused { number: 6, place }
+}
+
 #[inline]
-fn check_job(caps: &[u16], places: &[u16]) -> Result<Layout, usize> {
+fn check_job(caps: &[u16], places: &[u16]) -> Result<Layout, Refused> {
     check_racks(caps.len())?;
     let layout = Layout::new(caps)?;
     if places.len() != layout.slots {
-        return Err(4);
+        return Err(refused(4));
     }
     check_entries(&layout, places)?;
     Ok(layout)
@@ -175,12 +222,12 @@ fn check_job_with_cards(
     b: usize,
     places: &[u16],
     cards: &[u8],
-) -> Result<Layout, usize> {
+) -> Result<Layout, Refused> {
     check_racks(caps.len())?;
     check_card(b)?;
     let layout = Layout::new(caps)?;
     if places.len() != layout.slots || cards.len() != layout.slots * b {
-        return Err(4);
+        return Err(refused(4));
     }
     check_entries(&layout, places)?;
     Ok(layout)
@@ -189,7 +236,7 @@ fn check_job_with_cards(
 /// 12, rack by rack: an entry on its own rack lies in the rack's range, which
 /// one comparison sees.
 #[inline]
-fn check_nothing_away(layout: &Layout, places: &[u16]) -> Result<(), usize> {
+fn check_nothing_away(layout: &Layout, places: &[u16]) -> Result<(), Refused> {
     let mut away = false;
     for p in 0..layout.racks {
         let base = layout.base[p];
@@ -199,7 +246,7 @@ fn check_nothing_away(layout: &Layout, places: &[u16]) -> Result<(), usize> {
         }
     }
     if away {
-        Err(12)
+        Err(refused(12))
     } else {
         Ok(())
     }
@@ -542,21 +589,17 @@ fn run_copies(places: &mut [u16], cards: &mut [u8], b: usize) -> usize {
 pub fn check_table(caps: &[u16], places: &[u16]) -> Answer {
     match check_job(caps, places) {
         Ok(_) => Answer::default(),
-        Err(number) => refused(number),
+        Err(refused) => refused.into(),
     }
 }
 
 pub fn slot_question(caps: &[u16], places: &[u16], slot: usize) -> SlotAnswer {
-    let none = |number| SlotAnswer {
-        number,
-        ..SlotAnswer::default()
-    };
     let layout = match check_job(caps, places) {
         Ok(layout) => layout,
-        Err(number) => return none(number),
+        Err(refused) => return refused.into(),
     };
     if slot >= layout.slots {
-        return none(7);
+        return refused(7);
     }
     let own = layout.rack_of(slot);
     let entry = places[slot];
@@ -581,7 +624,7 @@ pub fn slot_question(caps: &[u16], places: &[u16], slot: usize) -> SlotAnswer {
 pub fn phase_plan(caps: &[u16], places: &[u16], list: &mut [u16]) -> Answer {
     let layout = match check_job(caps, places) {
         Ok(layout) => layout,
-        Err(number) => return refused(number),
+        Err(refused) => return refused.into(),
     };
     let mut phases = Phases::new(&layout, places);
     let moves = phases.plan();
@@ -617,7 +660,7 @@ pub fn one_move(
 ) -> Answer {
     let layout = match check_job_with_cards(caps, b, places, cards) {
         Ok(layout) => layout,
-        Err(number) => return refused(number),
+        Err(refused) => return refused.into(),
     };
     if from >= layout.slots || to >= layout.slots {
         return refused(7);
@@ -655,7 +698,7 @@ pub fn budgeted_moves(
 ) -> Answer {
     let layout = match check_job_with_cards(caps, b, places, cards) {
         Ok(layout) => layout,
-        Err(number) => return refused(number),
+        Err(refused) => return refused.into(),
     };
     let mut moves = 0;
     if k > 0 {
@@ -677,8 +720,8 @@ pub fn budgeted_moves(
 
 pub fn copy_list(caps: &[u16], places: &[u16], list: &mut [u16]) -> Answer {
     let checked = check_job(caps, places).and_then(|layout| check_nothing_away(&layout, places));
-    if let Err(number) = checked {
-        return refused(number);
+    if let Err(refused) = checked {
+        return refused.into();
     }
     let coming = Coming::new(places);
     // Each unsettled card is one copy and each cycle, of two cards or more,
@@ -710,8 +753,8 @@ pub fn copy_list(caps: &[u16], places: &[u16], list: &mut [u16]) -> Answer {
 pub fn shuffle_cards(caps: &[u16], b: usize, places: &mut [u16], cards: &mut [u8]) -> Answer {
     let checked = check_job_with_cards(caps, b, places, cards)
         .and_then(|layout| check_nothing_away(&layout, places));
-    if let Err(number) = checked {
-        return refused(number);
+    if let Err(refused) = checked {
+        return refused.into();
     }
     Answer {
         copies: run_copies(places, cards, b),
@@ -722,7 +765,7 @@ pub fn shuffle_cards(caps: &[u16], b: usize, places: &mut [u16], cards: &mut [u8
 pub fn whole_run(caps: &[u16], b: usize, places: &mut [u16], cards: &mut [u8]) -> Answer {
     let layout = match check_job_with_cards(caps, b, places, cards) {
         Ok(layout) => layout,
-        Err(number) => return refused(number),
+        Err(refused) => return refused.into(),
     };
     let mut tally = Answer::default();
     let mut phases = Phases::new(&layout, places);
@@ -749,51 +792,57 @@ struct Job {
     b: usize,
     places: [u16; SLOTS],
     /// where the card bytes begin in the file
-    place: usize,
+    start: usize,
+}
+
+/// Takes a byte of a number.
+#[inline(always)]
+fn read_group(file: &[u8], at: &mut usize) -> Result<u8, Refused> {
+    let byte = *file.get(*at).ok_or_else(|| refused(15))?;
+    *at += 1;
+    Ok(byte)
 }
 
 #[inline(always)]
-fn read_number(file: &[u8], place: &mut usize) -> Result<usize, usize> {
-    let byte = *file.get(*place).ok_or(15usize)?;
-    *place += 1;
+fn read_number(file: &[u8], at: &mut usize) -> Result<usize, Refused> {
+    let byte = read_group(file, at)?;
     if byte < 0x80 {
         return Ok(usize::from(byte));
     }
     let low = usize::from(byte & 0x7f);
-    let byte = *file.get(*place).ok_or(15usize)?;
-    *place += 1;
+    let byte = read_group(file, at)?;
     if byte < 0x80 {
         return if byte == 0 {
-            Err(14)
+            Err(refused(14))
         } else {
             Ok(low | usize::from(byte) << 7)
         };
     }
     let middle = usize::from(byte & 0x7f) << 7;
-    let byte = *file.get(*place).ok_or(15usize)?;
-    *place += 1;
-    if byte == 0 || byte >= 0x80 {
-        return Err(14);
+    let byte = read_group(file, at)?;
+    match byte {
+        0 => Err(refused(14)),
+        1..0x80 => Ok(low | middle | usize::from(byte) << 14),
+        _ => Err(refused(20)),
     }
-    Ok(low | middle | usize::from(byte) << 14)
 }
 
 /// All of the reader's checks but 17.
 #[inline(always)]
-fn read_job(file: &[u8]) -> Result<Job, usize> {
-    let mut place = 0;
-    let racks = read_number(file, &mut place)?;
+fn read_job(file: &[u8]) -> Result<Job, Refused> {
+    let mut at = 0;
+    let racks = read_number(file, &mut at)?;
     check_racks(racks)?;
-    let b = read_number(file, &mut place)?;
+    let b = read_number(file, &mut at)?;
     check_card(b)?;
 
     let mut caps = [0; RACKS];
     let mut total = 0;
     for m in &mut caps[..racks] {
-        let number = read_number(file, &mut place)?;
+        let number = read_number(file, &mut at)?;
         total += number;
         if number > usize::from(MAX_CAPACITY) || total > MAX_TOTAL {
-            return Err(3);
+            return Err(refused(3));
         }
         *m = number as u16;
     }
@@ -806,49 +855,44 @@ fn read_job(file: &[u8]) -> Result<Job, usize> {
     let mut places = [FREE; SLOTS];
     let mut found = 0;
     for entry in &mut places[..layout.slots] {
-        let number = read_number(file, &mut place)?;
+        let number = read_number(file, &mut at)?;
         if number == 0 {
             continue;
         }
         let slot = number - 1;
-        if slot >= layout.slots {
-            return Err(5);
-        }
         let mark = &mut marks[slot & SLOT_MASK];
-        if *mark & SPARE != 0 {
-            return Err(5);
+        if slot >= layout.slots || *mark & SPARE != 0 {
+            // The first bad one, and found as such: the hand is no user slot.
+            *entry = HAND;
+            return Err(bad_entry(&layout, &places[..layout.slots]));
         }
         found |= *mark;
         *mark = NAMED;
         *entry = slot as u16;
     }
     if found != 0 {
-        return Err(6);
+        return Err(repeated_entry(&places[..layout.slots]));
     }
 
-    let left = file.len() - place;
+    let left = file.len() - at;
     let wanted = layout.slots * b;
     match left.cmp(&wanted) {
-        Ordering::Less => Err(15),
-        Ordering::Greater => Err(16),
+        Ordering::Less => Err(refused(15)),
+        Ordering::Greater => Err(refused(16)),
         Ordering::Equal => Ok(Job {
             layout,
             caps,
             b,
             places,
-            place,
+            start: at,
         }),
     }
 }
 
 pub fn read_file(file: &[u8], caps: &mut [u16], places: &mut [u16]) -> FileAnswer {
-    let refused = |number| FileAnswer {
-        number,
-        ..FileAnswer::default()
-    };
     let job = match read_job(file) {
         Ok(job) => job,
-        Err(number) => return refused(number),
+        Err(refused) => return refused.into(),
     };
     let (racks, slots) = (job.layout.racks, job.layout.slots);
     if caps.len() < racks || places.len() < slots {
@@ -860,7 +904,7 @@ pub fn read_file(file: &[u8], caps: &mut [u16], places: &mut [u16]) -> FileAnswe
         racks,
         bytes: job.b,
         slots,
-        place: job.place,
+        start: job.start,
         ..FileAnswer::default()
     }
 }
@@ -888,20 +932,20 @@ fn in_groups(number: u16) -> (u16, usize) {
     (bytes, 1 + usize::from(second))
 }
 
-/// Puts a number at a place and gives the place behind it. Two bytes are
+/// Puts a number at a byte and gives the byte behind it. Two bytes are
 /// written always; what comes next, the card bytes at last, takes the second
 /// where it is none of the number's.
 #[inline(always)]
-fn put_number(file: &mut [u8], place: usize, number: u16) -> usize {
+fn put_number(file: &mut [u8], at: usize, number: u16) -> usize {
     let (bytes, length) = in_groups(number);
-    file[place..place + 2].copy_from_slice(&bytes.to_le_bytes());
-    place + length
+    file[at..at + 2].copy_from_slice(&bytes.to_le_bytes());
+    at + length
 }
 
 /// The same for four entries in one word. It fits in the file: they take four
 /// bytes or more, and behind them is a card byte or more for each.
 #[inline(always)]
-fn put_four(file: &mut [u8], place: usize, entries: &[u16]) -> usize {
+fn put_four(file: &mut [u8], at: usize, entries: &[u16]) -> usize {
     let mut word = 0;
     let mut length = 0;
     for &entry in entries {
@@ -909,8 +953,8 @@ fn put_four(file: &mut [u8], place: usize, entries: &[u16]) -> usize {
         word |= u64::from(bytes) << (8 * length);
         length += more;
     }
-    file[place..place + 8].copy_from_slice(&word.to_le_bytes());
-    place + length
+    file[at..at + 8].copy_from_slice(&word.to_le_bytes());
+    at + length
 }
 
 /// The length of the file of a job that was checked.
@@ -926,19 +970,19 @@ fn file_length(caps: &[u16], b: usize, places: &[u16], cards: &[u8]) -> usize {
 /// Puts the file of a job that was checked where it fits exactly.
 #[inline]
 fn put_file(file: &mut [u8], caps: &[u16], b: usize, places: &[u16], cards: &[u8]) {
-    let mut place = 0;
+    let mut at = 0;
     for &number in [caps.len() as u16, b as u16].iter().chain(caps) {
-        place = put_number(file, place, number);
+        at = put_number(file, at, number);
     }
     let fours = places.chunks_exact(4);
     let rest = fours.remainder();
     for four in fours {
-        place = put_four(file, place, four);
+        at = put_four(file, at, four);
     }
     for &entry in rest {
-        place = put_number(file, place, entry_in_file(entry));
+        at = put_number(file, at, entry_in_file(entry));
     }
-    file[place..].copy_from_slice(cards);
+    file[at..].copy_from_slice(cards);
 }
 
 /// A refusal writes nothing, so the length is counted before.
@@ -949,12 +993,8 @@ pub fn write_file(
     cards: &[u8],
     buffer: &mut [u8],
 ) -> SizeAnswer {
-    let refused = |number| SizeAnswer {
-        number,
-        ..SizeAnswer::default()
-    };
-    if let Err(number) = check_job_with_cards(caps, b, places, cards) {
-        return refused(number);
+    if let Err(refused) = check_job_with_cards(caps, b, places, cards) {
+        return refused.into();
     }
     let length = file_length(caps, b, places, cards);
     let Some(file) = buffer.get_mut(..length) else {
@@ -971,17 +1011,14 @@ pub fn write_file(
 // The program's listing
 
 pub fn list_job(file: &[u8], out: &mut [u8]) -> SizeAnswer {
-    let text = listing(file).unwrap_or_else(|number| {
+    let text = listing(file).unwrap_or_else(|refused| {
         let mut text = b"refused ".to_vec();
-        push_number(&mut text, number);
+        push_number(&mut text, refused.number);
         text.push(b'\n');
         text
     });
     if out.len() < text.len() {
-        return SizeAnswer {
-            number: 13,
-            ..SizeAnswer::default()
-        };
+        return refused(13);
     }
     out[..text.len()].copy_from_slice(&text);
     SizeAnswer {
@@ -991,14 +1028,14 @@ pub fn list_job(file: &[u8], out: &mut [u8]) -> SizeAnswer {
 }
 
 /// Nothing may be written where the text does not fit, so it is made in full.
-fn listing(file: &[u8]) -> Result<Vec<u8>, usize> {
+fn listing(file: &[u8]) -> Result<Vec<u8>, Refused> {
     if file.len() > MAX_PROGRAM_FILE {
-        return Err(18);
+        return Err(refused(18));
     }
     let mut job = read_job(file)?;
     let b = job.b;
     let places = &mut job.places[..job.layout.slots];
-    let mut cards = file[job.place..].to_vec();
+    let mut cards = file[job.start..].to_vec();
     let mut text = Vec::with_capacity(64 + 2 * cards.len() + 21 * places.len());
 
     let mut phases = Phases::new(&job.layout, places);

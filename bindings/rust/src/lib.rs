@@ -26,7 +26,8 @@
 //! [`read_file`] takes a job from a job file; [`write_file`] and [`file_of`] make the
 //! file of a job in memory, at the start or midway.
 //!
-//! A refusal changes nothing that is lent.
+//! A refusal changes nothing that is lent. That of a bad table says which entry is
+//! meant ([`Refusal::place`]).
 //!
 //! ```
 //! use seineflute::{read_file, whole_run, Counts, FREE, MAX_RACKS, MAX_SLOTS};
@@ -166,68 +167,80 @@ pub const MAX_FILE: usize = 32_768;
 /// applies is given; the file reader has an order of its own ([`read_file`]).
 ///
 /// It prints as its number and its words, by `{:?}` too, so that a `main` which
-/// gives back a `Result<(), Refusal>` says what is wrong.
+/// gives back a `Result<(), Refusal>` says what is wrong, and of a table which entry.
 ///
 /// ```
-/// let refusal = seineflute::check_table(&[1], &[1, 65_535]).unwrap_err();
-/// let said = "5: an entry is neither free nor a user slot";
+/// use seineflute::{check_table, Refusal};
+///
+/// // One rack of three user slots; slot 3 is its spare.
+/// let refusal = check_table(&[3], &[2, 3, 0, 3]).unwrap_err();
+/// assert_eq!(refusal, Refusal::BadEntry(1));
+/// assert_eq!((refusal.number(), refusal.place()), (5, Some(1)));
+/// let said = "5: entry 1 is neither free nor a user slot";
 /// assert_eq!(refusal.to_string(), said);
 /// assert_eq!(format!("{refusal:?}"), said);
+///
+/// let refusal = check_table(&[3], &[2, 0, 1, 0]).unwrap_err();
+/// assert_eq!(refusal, Refusal::NamedTwice(3));
+/// assert_eq!(refusal.to_string(), "6: entry 3 repeats an earlier one");
 /// ```
 #[derive(Clone, Copy, PartialEq, Eq, PartialOrd, Ord, Hash)]
 #[non_exhaustive]
 pub enum Refusal {
     /// 1: N is 0 or above 64.
-    BadCount = 1,
+    BadCount,
     /// 2: B is 0 or above 256.
-    BadBytes = 2,
+    BadBytes,
     /// 3: a rack has more than 1,023 user slots, or the total is above 4,032.
-    BadSize = 3,
+    BadSize,
     /// 4: places is not S long, or cards is lent and not S·B long.
-    BadLength = 4,
-    /// 5: an entry is neither free nor a user slot; in a file, it is not 0 and one
-    /// less than it is no user slot.
-    BadEntry = 5,
-    /// 6: two entries name one slot.
-    NamedTwice = 6,
+    BadLength,
+    /// 5: the entry of this slot is neither free nor a user slot; in a file, it is not
+    /// 0 and one less than it is no user slot. It is the lowest such entry.
+    BadEntry(usize),
+    /// 6: the entry of this slot repeats an earlier one: two entries name one slot. It
+    /// is the lowest such entry, and the later of the two.
+    NamedTwice(usize),
     /// 7: a slot number in the call is S or more.
-    NoSlot = 7,
+    NoSlot,
     /// 8: the source slot is free.
-    SourceFree = 8,
+    SourceFree,
     /// 9: the source's card is on its rack already.
-    SourceHome = 9,
+    SourceHome,
     /// 10: the target is not on the card's destination rack.
-    Elsewhere = 10,
+    Elsewhere,
     /// 11: the target is not free.
-    TargetTaken = 11,
+    TargetTaken,
     /// 12: a card is away (copy list and shuffle only).
-    SomeAway = 12,
+    SomeAway,
     /// 13: the lent list is too short for what would be written.
-    TooShort = 13,
-    /// 14: file: a number is not in its shortest form, or has more than three groups.
-    FileForm = 14,
+    TooShort,
+    /// 14: file: a number is padded beyond its shortest form.
+    FileForm,
     /// 15: file: it ends too early.
-    FileEnds = 15,
+    FileEnds,
     /// 16: file: bytes are left over.
-    FileLeftOver = 16,
+    FileLeftOver,
     /// 17: file: room for capacities is below N, or for places below S.
-    FileRoom = 17,
+    FileRoom,
     /// 18: listing only: the file is above 32,768 bytes. No call returns it; it
     /// stands in a listing's text.
-    FileLarge = 18,
+    FileLarge,
     /// 19: the buffer is shorter than the file (file writer only).
-    BufferShort = 19,
+    BufferShort,
+    /// 20: file: a number has more than three groups.
+    FileGroups,
 }
 
 impl Refusal {
-    /// All of them, by number.
+    /// All of them, by number; those that say which entry, with entry 0.
     pub const ALL: &'static [Refusal] = &[
         Refusal::BadCount,
         Refusal::BadBytes,
         Refusal::BadSize,
         Refusal::BadLength,
-        Refusal::BadEntry,
-        Refusal::NamedTwice,
+        Refusal::BadEntry(0),
+        Refusal::NamedTwice(0),
         Refusal::NoSlot,
         Refusal::SourceFree,
         Refusal::SourceHome,
@@ -241,19 +254,57 @@ impl Refusal {
         Refusal::FileRoom,
         Refusal::FileLarge,
         Refusal::BufferShort,
+        Refusal::FileGroups,
     ];
 
-    /// The number that the library gives for it, 1 to 19.
+    /// The number that the library gives for it, 1 to 20.
     pub fn number(self) -> usize {
-        self as usize
+        match self {
+            Refusal::BadCount => 1,
+            Refusal::BadBytes => 2,
+            Refusal::BadSize => 3,
+            Refusal::BadLength => 4,
+            Refusal::BadEntry(_) => 5,
+            Refusal::NamedTwice(_) => 6,
+            Refusal::NoSlot => 7,
+            Refusal::SourceFree => 8,
+            Refusal::SourceHome => 9,
+            Refusal::Elsewhere => 10,
+            Refusal::TargetTaken => 11,
+            Refusal::SomeAway => 12,
+            Refusal::TooShort => 13,
+            Refusal::FileForm => 14,
+            Refusal::FileEnds => 15,
+            Refusal::FileLeftOver => 16,
+            Refusal::FileRoom => 17,
+            Refusal::FileLarge => 18,
+            Refusal::BufferShort => 19,
+            Refusal::FileGroups => 20,
+        }
     }
 
-    /// The refusal of a number; `None` for 0, which is done, and above 19.
-    pub fn from_number(number: usize) -> Option<Refusal> {
-        Refusal::ALL.get(number.checked_sub(1)?).copied()
+    /// The slot of the entry that is meant; `None` where no entry is.
+    pub fn place(self) -> Option<usize> {
+        match self {
+            Refusal::BadEntry(place) | Refusal::NamedTwice(place) => Some(place),
+            _ => None,
+        }
     }
 
-    /// What it says, in the words of the C header's `seineflute_words`.
+    /// The refusal of a number and of the place that goes with it; `None` for 0, which
+    /// is done, and above 20. Only 5 and 6 have a place: with the others it is not
+    /// looked at.
+    pub fn from_number(number: usize, place: usize) -> Option<Refusal> {
+        let refusal = *Refusal::ALL.get(number.checked_sub(1)?)?;
+        Some(match refusal {
+            Refusal::BadEntry(_) => Refusal::BadEntry(place),
+            Refusal::NamedTwice(_) => Refusal::NamedTwice(place),
+            without => without,
+        })
+    }
+
+    /// What it says, in the words of the C header's `seineflute_words`. Where these
+    /// speak of "an entry", what is printed has "entry 17".
     pub fn words(self) -> &'static str {
         match self {
             Refusal::BadCount => "there are no racks, or more than 64",
@@ -264,8 +315,8 @@ impl Refusal {
             Refusal::BadLength => {
                 "places has not one entry for each slot, or cards not one card for each slot"
             }
-            Refusal::BadEntry => "an entry is neither free nor a user slot",
-            Refusal::NamedTwice => "two entries name one slot",
+            Refusal::BadEntry(_) => "an entry is neither free nor a user slot",
+            Refusal::NamedTwice(_) => "an entry repeats an earlier one",
             Refusal::NoSlot => "a slot number in the call is above that of the last slot",
             Refusal::SourceFree => "the source slot is free",
             Refusal::SourceHome => "the source's card is on its rack already",
@@ -273,21 +324,25 @@ impl Refusal {
             Refusal::TargetTaken => "the target is not free",
             Refusal::SomeAway => "a card is away: its slot is on another rack",
             Refusal::TooShort => "the lent list is too short for what would be written",
-            Refusal::FileForm => {
-                "file: a number is not in its shortest form, or has more than three groups"
-            }
+            Refusal::FileForm => "file: a number is padded beyond its shortest form",
             Refusal::FileEnds => "file: it ends too early",
             Refusal::FileLeftOver => "file: bytes are left over",
             Refusal::FileRoom => "file: the room for capacities or for places is too short",
             Refusal::FileLarge => "file: it has more than 32,768 bytes",
             Refusal::BufferShort => "the buffer is shorter than the file",
+            Refusal::FileGroups => "file: a number has more than three groups",
         }
     }
 }
 
 impl fmt::Display for Refusal {
+    /// The words, with the entry that they speak of where there is one.
     fn fmt(&self, f: &mut fmt::Formatter<'_>) -> fmt::Result {
-        write!(f, "{}: {}", self.number(), self.words())
+        let (number, words) = (self.number(), self.words());
+        match (self.place(), words.strip_prefix("an entry")) {
+            (Some(place), Some(rest)) => write!(f, "{number}: entry {place}{rest}"),
+            _ => write!(f, "{number}: {words}"),
+        }
     }
 }
 
@@ -349,12 +404,12 @@ pub struct JobFile<'a> {
     pub cards: &'a [u8],
 }
 
-/// Done, or the refusal that a number is.
-fn outcome<T>(number: usize, done: T) -> Result<T, Refusal> {
+/// Done, or the refusal that a number is with its place.
+fn outcome<T>(number: usize, place: usize, done: T) -> Result<T, Refusal> {
     if number == 0 {
         return Ok(done);
     }
-    Err(Refusal::from_number(number).expect("it is proved that a number is at most 19"))
+    Err(Refusal::from_number(number, place).expect("it is proved that a number is at most 20"))
 }
 
 fn counted(answer: raw::Answer) -> Result<Counts, Refusal> {
@@ -363,7 +418,7 @@ fn counted(answer: raw::Answer) -> Result<Counts, Refusal> {
         moves: answer.moves,
         copies: answer.copies,
     };
-    outcome(answer.number, counts)
+    outcome(answer.number, answer.place, counts)
 }
 
 /// Table check: whether the racks and the table are legal. Refuses with 1, 3, 4, 5 or 6.
@@ -385,7 +440,7 @@ pub fn slot_question(caps: &[u16], places: &[u16], slot: usize) -> Result<Slot, 
         3 => State::Unsettled,
         _ => State::Away(answer.rack),
     };
-    outcome(answer.number, Slot { kind, state })
+    outcome(answer.number, answer.place, Slot { kind, state })
 }
 
 /// Phase plan: writes the pairs (from, to) of the present phase to the front of
@@ -455,8 +510,19 @@ pub fn whole_run(
 /// and hands back N, B, S and the card bytes as a part of the file. [`MAX_RACKS`]
 /// and [`MAX_SLOTS`] are always room enough.
 ///
-/// Each number is checked as it is read: its form (14, 15), then 1, 2, 3 or 5;
-/// after the last entry come 6, then 15 or 16 for the card bytes, then 17.
+/// Each number is checked as it is read: its form (14, 15, 20), then 1, 2, 3 or 5;
+/// after the last entry come 6, then 15 or 16 for the card bytes, then 17. The entry
+/// that 5 and 6 say is a slot, as in a table, and not a byte of the file.
+///
+/// ```
+/// use seineflute::{read_file, Refusal};
+///
+/// // One rack of two user slots, cards of one byte; the entries of slots 0 and 1 name
+/// // user slot 1.
+/// let file = [1, 1, 2, 2, 2, 0, b'x', b'y', 0];
+/// let refused = read_file(&file, &mut [0; 1], &mut [0; 3]);
+/// assert_eq!(refused, Err(Refusal::NamedTwice(1)));
+/// ```
 pub fn read_file<'a>(
     file: &'a [u8],
     caps: &mut [u16],
@@ -467,9 +533,9 @@ pub fn read_file<'a>(
         racks: answer.racks,
         bytes: answer.bytes,
         slots: answer.slots,
-        cards: &file[answer.place..],
+        cards: &file[answer.start..],
     };
-    outcome(answer.number, job)
+    outcome(answer.number, answer.place, job)
 }
 
 /// Write file: writes to the front of `out` the job file that [`read_file`] reads as
@@ -498,7 +564,7 @@ pub fn write_file(
     out: &mut [u8],
 ) -> Result<usize, Refusal> {
     let answer = raw::write_file(caps, b, places, cards, out);
-    outcome(answer.number, answer.size)
+    outcome(answer.number, answer.place, answer.size)
 }
 
 /// Room for the file of a job: N takes a byte, and B, a capacity or an entry at most two.
@@ -540,8 +606,9 @@ pub fn file_of(caps: &[u16], b: usize, places: &[u16], cards: &[u8]) -> Result<V
 /// for a job file, and hands that part back. [`TEXT_ROOM`] is always room enough.
 ///
 /// The text of a file that the reader refuses, or that is above [`MAX_FILE`] (18),
-/// is the line `refused` with the number; it is a text like any other. The call
-/// itself refuses with 13 alone, where `out` is too short for the text.
+/// is the line `refused` with the number; it is a text like any other. Which entry is
+/// meant is not in the line: [`read_file`] says it. The call itself refuses with 13
+/// alone, where `out` is too short for the text.
 ///
 /// ```
 /// let mut out = vec![0; seineflute::TEXT_ROOM];
@@ -551,5 +618,5 @@ pub fn file_of(caps: &[u16], b: usize, places: &[u16], cards: &[u8]) -> Result<V
 /// ```
 pub fn list_job<'a>(file: &[u8], out: &'a mut [u8]) -> Result<&'a [u8], Refusal> {
     let answer = raw::list_job(file, out);
-    outcome(answer.number, &out[..answer.size])
+    outcome(answer.number, answer.place, &out[..answer.size])
 }

@@ -2,13 +2,16 @@
 //! since a slice is all that the library asks of a list, and takes every input.
 //!
 //! A struct's fields are those of the library's answer: `number` is 0 where the
-//! call is done, else a [`Refusal`](crate::Refusal)'s, and then all else is 0.
+//! call is done, else a [`Refusal`](crate::Refusal)'s. `place` goes with 5 and
+//! 6: the slot of the lowest bad entry, and of the lowest entry that repeats an
+//! earlier one; with every other number it is 0. All else is 0 on a refusal.
 
-/// What every call gives: its number and the counts.
+/// What every call gives: its number, the place that goes with it, and the counts.
 #[repr(C)]
 #[derive(Clone, Copy, Debug, Default, PartialEq, Eq)]
 pub struct Answer {
     pub number: usize,
+    pub place: usize,
     pub phases: usize,
     pub moves: usize,
     pub copies: usize,
@@ -19,6 +22,7 @@ pub struct Answer {
 #[derive(Clone, Copy, Debug, Default, PartialEq, Eq)]
 pub struct SlotAnswer {
     pub number: usize,
+    pub place: usize,
     pub phases: usize,
     pub moves: usize,
     pub copies: usize,
@@ -35,6 +39,7 @@ pub struct SlotAnswer {
 #[derive(Clone, Copy, Debug, Default, PartialEq, Eq)]
 pub struct FileAnswer {
     pub number: usize,
+    pub place: usize,
     pub phases: usize,
     pub moves: usize,
     pub copies: usize,
@@ -45,7 +50,7 @@ pub struct FileAnswer {
     /// S.
     pub slots: usize,
     /// Where the card bytes begin; they go to the file's end.
-    pub place: usize,
+    pub start: usize,
 }
 
 /// What the calls that fill a buffer of bytes give: the file writer and the listing.
@@ -53,6 +58,7 @@ pub struct FileAnswer {
 #[derive(Clone, Copy, Debug, Default, PartialEq, Eq)]
 pub struct SizeAnswer {
     pub number: usize,
+    pub place: usize,
     pub phases: usize,
     pub moves: usize,
     pub copies: usize,

@@ -1,4 +1,4 @@
-//! The paper cards, cases 1 to 7, 9 and 10, through the safe calls.
+//! The paper cards through the safe calls; of case 8 the numbers that are refused.
 
 use seineflute::{
     budgeted_moves, check_table, copy_list, file_of, list_job, one_move, phase_plan, raw,
@@ -239,10 +239,38 @@ fn case_6() {
 fn case_7() {
     let with = |entry| check_table(&TWO, &[entry, FREE, 0, FREE]);
     assert_eq!(with(2), Ok(()));
-    assert_eq!(with(3), Err(Refusal::BadEntry));
-    assert_eq!(with(0), Err(Refusal::NamedTwice));
+    assert_eq!(with(3), Err(Refusal::BadEntry(0)));
+    assert_eq!(with(0), Err(Refusal::NamedTwice(2)));
     let both = check_table(&CYCLE.0, &[2, 2, FREE]);
-    assert_eq!(both, Err(Refusal::BadEntry));
+    assert_eq!(both, Err(Refusal::BadEntry(0)));
+}
+
+/// The same refusal by every call that checks a table, and by the reader of its file.
+fn refused_by_all(table: [u16; 8], refusal: Refusal) {
+    let (mut places, mut cards) = (table, CARDS);
+    let (places, cards) = (&mut places, &mut cards);
+    assert_eq!(check_table(&CAPS, places), Err(refusal));
+    assert_eq!(slot_question(&CAPS, places, 0), Err(refusal));
+    assert_eq!(phase_plan(&CAPS, places, &mut []), Err(refusal));
+    assert_eq!(one_move(&CAPS, 1, places, cards, 0, 5), Err(refusal));
+    assert_eq!(budgeted_moves(&CAPS, 1, places, cards, 0), Err(refusal));
+    assert_eq!(copy_list(&CAPS, places, &mut []), Err(refusal));
+    assert_eq!(shuffle_cards(&CAPS, 1, places, cards), Err(refusal));
+    assert_eq!(whole_run(&CAPS, 1, places, cards), Err(refusal));
+    assert_eq!(write_file(&CAPS, 1, places, cards, &mut []), Err(refusal));
+    assert_eq!(file_of(&CAPS, 1, places, cards), Err(refusal));
+    let entries = table.map(|entry| entry.wrapping_add(1) as u8);
+    let file = [&FILE[..5], &entries, &CARDS].concat();
+    assert_eq!(read_file(&file, &mut [], &mut []), Err(refusal));
+    let line = format!("refused {}\n", refusal.number());
+    assert_eq!(list_job(&file, &mut [0; 10]), Ok(line.as_bytes()));
+}
+
+/// Of several bad entries the lowest is named, and of those that repeat an earlier one.
+#[test]
+fn refusals_say_which_entry() {
+    refused_by_all([3, 4, 4, 2, 6, FREE, 8, FREE], Refusal::BadEntry(3));
+    refused_by_all([3, 4, FREE, 0, 4, FREE, 3, FREE], Refusal::NamedTwice(4));
 }
 
 #[test]
@@ -287,6 +315,17 @@ fn lists_too_short() {
     assert_eq!(refused, Err(Refusal::FileRoom));
     let refused = read_file(&FILE[..20], &mut [0; 3], &mut [0; 8]);
     assert_eq!(refused, Err(Refusal::FileEnds));
+}
+
+/// Case 8's numbers that are refused, as N.
+#[test]
+fn numbers_refused() {
+    let read = |file: &[u8]| read_file(file, &mut [], &mut []).unwrap_err();
+    assert_eq!(read(&[0x80, 0x00]), Refusal::FileForm);
+    assert_eq!(read(&[0x80, 0x80, 0x00]), Refusal::FileForm);
+    assert_eq!(read(&[0x80, 0x80]), Refusal::FileEnds);
+    assert_eq!(read(&[0x80, 0x80, 0x80]), Refusal::FileGroups);
+    assert_eq!(read(&[0x80, 0x80, 0x80, 0x00]), Refusal::FileGroups);
 }
 
 #[test]
@@ -349,8 +388,8 @@ fn files_refused() {
     assert_eq!(of(&[1], 0, &[0, FREE], &[]), Err(Refusal::BadBytes));
     assert_eq!(of(&[1_024], 1, &[], &[]), Err(Refusal::BadSize));
     assert_eq!(of(&[1], 1, &[0, FREE], b"a"), Err(Refusal::BadLength));
-    assert_eq!(of(&[1], 1, &[1, FREE], b"ab"), Err(Refusal::BadEntry));
-    assert_eq!(of(&[1], 1, &[0, 0], b"ab"), Err(Refusal::NamedTwice));
+    assert_eq!(of(&[1], 1, &[1, FREE], b"ab"), Err(Refusal::BadEntry(0)));
+    assert_eq!(of(&[1], 1, &[0, 0], b"ab"), Err(Refusal::NamedTwice(1)));
     // Lists far longer than any job's.
     let longer = of(&[0; 70_000], 1, &[FREE; 70_000], &[0; 70_000]);
     assert_eq!(longer, Err(Refusal::BadCount));
@@ -360,8 +399,12 @@ fn files_refused() {
 fn refusals_have_their_numbers() {
     for (i, &refusal) in Refusal::ALL.iter().enumerate() {
         assert_eq!(refusal.number(), i + 1);
-        assert_eq!(Refusal::from_number(i + 1), Some(refusal));
+        assert_eq!(Refusal::from_number(i + 1, 0), Some(refusal));
+        let placed = Refusal::from_number(i + 1, 17).unwrap();
+        assert_eq!(placed.number(), i + 1);
+        assert_eq!(placed.place(), matches!(i + 1, 5 | 6).then_some(17));
     }
-    assert_eq!(Refusal::from_number(0), None);
-    assert_eq!(Refusal::from_number(20), None);
+    assert_eq!(Refusal::ALL.len(), 20);
+    assert_eq!(Refusal::from_number(0, 0), None);
+    assert_eq!(Refusal::from_number(21, 0), None);
 }

@@ -180,7 +180,7 @@ enum Row {
     ListingText,
 }
 
-const NUMBERS: usize = 20;
+const NUMBERS: usize = 21;
 
 /// Each row with the numbers that the rules let it give.
 const ROWS: [(Row, &str, &[usize]); 12] = [
@@ -199,14 +199,14 @@ const ROWS: [(Row, &str, &[usize]); 12] = [
     (
         Row::ReadFile,
         "read file",
-        &[0, 1, 2, 3, 5, 6, 14, 15, 16, 17],
+        &[0, 1, 2, 3, 5, 6, 14, 15, 16, 17, 20],
     ),
     (Row::WriteFile, "write file", &[0, 1, 2, 3, 4, 5, 6, 19]),
     (Row::ListJob, "list job", &[0, 13]),
     (
         Row::ListingText,
         "  its text says",
-        &[0, 1, 2, 3, 5, 6, 14, 15, 16, 18],
+        &[0, 1, 2, 3, 5, 6, 14, 15, 16, 18, 20],
     ),
 ];
 
@@ -603,7 +603,7 @@ impl<'a, A: Mover, B: Mover> Compare<'a, A, B> {
             caps: self.lent_a.caps.clone(),
             b: answer.bytes,
             places: self.lent_a.places.clone(),
-            cards: file[answer.place..].to_vec(),
+            cards: file[answer.start..].to_vec(),
         }
     }
 
@@ -719,7 +719,7 @@ fn random_job<A: Mover, B: Mover>(
     } else {
         Size::Small
     };
-    match random.below(20) {
+    match random.below(22) {
         0 => {
             let job = jobs::garbage(random);
             all_calls(compare, random, &job)?;
@@ -738,6 +738,7 @@ fn random_job<A: Mover, B: Mover>(
             file_calls(compare, &jobs::damaged_file(random, &job), random)?;
             file_calls(compare, &jobs::damaged_file(random, &job), random)
         }
+        11 | 12 => wrong_entry_calls(compare, random, size),
         _ => {
             let mut job = jobs::legal(random, size);
             if random.once_in(3) {
@@ -766,6 +767,26 @@ fn limit_job<A: Mover, B: Mover>(compare: &mut Compare<A, B>, random: &mut Rando
         }
         _ => call_sequence(compare, random, &mut job),
     }
+}
+
+/// Each call on a table with several wrong entries, and on its file, as it is and
+/// damaged: which of them a refusal names is seen here.
+fn wrong_entry_calls<A: Mover, B: Mover>(
+    compare: &mut Compare<A, B>,
+    random: &mut Random,
+    size: Size,
+) -> Compared<()> {
+    // A large table that is refused costs little.
+    let size = if random.once_in(20) {
+        Size::Limit
+    } else {
+        size
+    };
+    let mut job = jobs::legal(random, size);
+    jobs::wrong_entries(random, &mut job);
+    all_calls(compare, random, &job)?;
+    file_calls(compare, &jobs::file(&job), random)?;
+    file_calls(compare, &jobs::damaged_file(random, &job), random)
 }
 
 fn file_calls<A: Mover, B: Mover>(

@@ -7,7 +7,7 @@ mod engine;
 mod mover;
 mod plain;
 
-use mover::{Answer, Engine, Mover, Plain, Proved, SizeAnswer};
+use mover::{Answer, Engine, FileAnswer, Mover, Plain, Proved, SizeAnswer, SlotAnswer};
 
 const F: u16 = 65_535;
 const H: u16 = 65_534;
@@ -34,6 +34,7 @@ fn paper_cards(mover: &impl Mover) {
     cases_6_and_7(mover);
     case_8(mover);
     cases_9_and_10(mover);
+    wrong_entries(mover);
     slot_answers(mover);
     lowest_slots(mover);
     files(mover);
@@ -64,8 +65,13 @@ fn copies(copies: usize) -> Answer {
 }
 
 fn refused(number: usize) -> Answer {
+    refused_at(number, 0)
+}
+
+fn refused_at(number: usize, place: usize) -> Answer {
     Answer {
         number,
+        place,
         ..Answer::default()
     }
 }
@@ -89,7 +95,7 @@ fn case_1(mover: &impl Mover) {
     let (mut caps, mut places) = ([9; 4], [9; 10]);
     let answer = mover.read_file(&FILE_1, &mut caps, &mut places);
     assert_eq!((answer.racks, answer.bytes, answer.slots), (3, 1, 8));
-    assert_eq!(answer.place, 13);
+    assert_eq!((answer.place, answer.start), (0, 13));
     assert_eq!(caps, [2, 2, 1, 9]);
     assert_eq!(places, [3, 4, F, 0, 6, F, 1, F, 9, 9]);
 
@@ -174,10 +180,10 @@ fn cases_6_and_7(mover: &impl Mover) {
     assert_eq!(one_move([2, 0, F, F], 1, 2), refused(9));
 
     let check = |caps: &[u16], places: &[u16]| mover.check_table(caps, places);
-    assert_eq!(check(&[1, 1], &[3, F, 0, F]), refused(5));
-    assert_eq!(check(&[1, 1], &[0, F, 0, F]), refused(6));
-    assert_eq!(check(&[2], &[2, 2, F]), refused(5));
-    assert_eq!(check(&[2], &[0, 0, H]), refused(5));
+    assert_eq!(check(&[1, 1], &[3, F, 0, F]), refused_at(5, 0));
+    assert_eq!(check(&[1, 1], &[0, F, 0, F]), refused_at(6, 2));
+    assert_eq!(check(&[2], &[2, 2, F]), refused_at(5, 0));
+    assert_eq!(check(&[2], &[0, 0, H]), refused_at(5, 2));
 }
 
 /// Numbers of a file, seen by what they do as N, B, capacity or entry.
@@ -193,9 +199,20 @@ fn case_8(mover: &impl Mover) {
     assert_eq!(number(&[0x80, 0x80, 0x01]), 1);
     assert_eq!(number(&[0x01, 0x01, 0x80, 0x80, 0x01]), 3);
     assert_eq!(number(&[0x80, 0x00]), 14);
+    assert_eq!(number(&[0x80, 0x80, 0x00]), 14);
     assert_eq!(number(&[0x80]), 15);
     assert_eq!(number(&[0x80, 0x80]), 15);
-    assert_eq!(number(&[0x80, 0x80, 0x80]), 14);
+    // The third group says that another follows: 20 at once, whatever does.
+    assert_eq!(number(&[0x80, 0x80, 0x80]), 20);
+    assert_eq!(number(&[0x80, 0x80, 0x80, 0x00]), 20);
+    assert_eq!(number(&[0xff, 0xff, 0xff, 0xff]), 20);
+    assert_eq!(number(&[0x01, 0x80, 0x80, 0x80]), 20);
+    assert_eq!(number(&[0x01, 0x01, 0x80, 0x80, 0x80]), 20);
+    assert_eq!(number(&[0x01, 0x01, 0x01, 0x80, 0x80, 0x80]), 20);
+    // After a bad entry, and before two that name one slot.
+    assert_eq!(number(&[0x01, 0x01, 0x01, 0x02, 0x80, 0x80, 0x80]), 5);
+    let twice = &[0x01, 0x01, 0x02, 0x01, 0x01, 0x80, 0x80, 0x80];
+    assert_eq!(number(twice), 20);
 }
 
 fn cases_9_and_10(mover: &impl Mover) {
@@ -221,6 +238,69 @@ fn cases_9_and_10(mover: &impl Mover) {
     assert_eq!(run(256), Answer::default());
     assert_eq!(run(257), refused(2));
     assert_eq!(run(0), refused(2));
+}
+
+/// Which entry 5 and 6 name, on case 1's racks: slots 2, 5 and 7 are spares, 8 is none.
+fn wrong_entries(mover: &impl Mover) {
+    let cases: [([u16; 8], usize, usize); 8] = [
+        // the lowest bad one, a spare or no slot, though others repeat before it
+        ([2, 4, F, 0, 6, F, 1, 8], 5, 0),
+        ([3, 4, 4, 2, 6, F, 8, F], 5, 3),
+        ([3, 4, 4, 8, 6, F, 2, F], 5, 3),
+        ([0, 0, 0, 0, 0, 0, 0, 7], 5, 7),
+        // the later of two, and the lowest that is one
+        ([3, 4, F, 3, 6, F, 1, F], 6, 3),
+        ([3, 4, F, 0, 4, F, 3, F], 6, 4),
+        ([1, 1, 1, 1, F, F, F, F], 6, 1),
+        ([F, F, F, F, F, F, 1, 1], 6, 7),
+    ];
+    for (table, number, place) in cases {
+        wrong_table(mover, table, refused_at(number, place));
+        wrong_file(mover, table, refused_at(number, place));
+    }
+}
+
+/// A refusal by each call that checks a table; it comes before all that the call itself
+/// would refuse.
+fn wrong_table(mover: &impl Mover, table: [u16; 8], answer: Answer) {
+    let (mut places, mut cards) = (table, CARDS_1);
+    let (caps, places, cards) = (&CAPS_1, &mut places, &mut cards);
+    assert_eq!(mover.check_table(caps, places), answer);
+    assert_eq!(mover.phase_plan(caps, places, &mut []), answer);
+    assert_eq!(mover.one_move(caps, 1, places, cards, 8, 8), answer);
+    assert_eq!(mover.budgeted_moves(caps, 1, places, cards, 0), answer);
+    assert_eq!(mover.copy_list(caps, places, &mut []), answer);
+    assert_eq!(mover.shuffle_cards(caps, 1, places, cards), answer);
+    assert_eq!(mover.whole_run(caps, 1, places, cards), answer);
+    let Answer { number, place, .. } = answer;
+    let slot = SlotAnswer {
+        number,
+        place,
+        ..SlotAnswer::default()
+    };
+    assert_eq!(mover.slot_question(caps, places, 8), slot);
+    let size = SizeAnswer {
+        number,
+        place,
+        ..SizeAnswer::default()
+    };
+    assert_eq!(mover.write_file(caps, 1, places, cards, &mut []), size);
+}
+
+/// The same refusal of the file, by the slot and not by the byte. The listing says its
+/// number alone.
+fn wrong_file(mover: &impl Mover, table: [u16; 8], answer: Answer) {
+    let entries = table.map(|entry| entry.wrapping_add(1) as u8);
+    let file = [&FILE_1[..5], &entries, &CARDS_1].concat();
+    let Answer { number, place, .. } = answer;
+    let expected = FileAnswer {
+        number,
+        place,
+        ..FileAnswer::default()
+    };
+    assert_eq!(mover.read_file(&file, &mut [], &mut []), expected);
+    assert_eq!(text(mover, &file), format!("refused {number}\n"));
+    assert_eq!(mover.list_job(&file, &mut [0; 20]).place, 0);
 }
 
 fn slot_answers(mover: &impl Mover) {
@@ -367,6 +447,7 @@ fn unwritten_files(mover: &impl Mover) {
         assert_eq!(mover.write_file(caps, b, places, cards, &mut []), answer);
         let expected = SizeAnswer {
             number: answer.number,
+            place: answer.place,
             ..SizeAnswer::default()
         };
         assert_eq!(answer, expected);

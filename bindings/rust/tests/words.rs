@@ -43,7 +43,7 @@ fn the_header_has_the_same_words() {
     for (i, (label, words)) in found.into_iter().enumerate() {
         let name = label.strip_prefix("case ").expect(label);
         assert_eq!(number(name), i, "{name}");
-        let here = Refusal::from_number(i).map_or("done", Refusal::words);
+        let here = Refusal::from_number(i, 0).map_or("done", Refusal::words);
         assert_eq!(words, here, "{name}");
     }
 }
@@ -61,14 +61,32 @@ fn the_header_has_the_same_version() {
     assert_eq!(parts, here);
 }
 
+/// The words that are printed: where a refusal has a place, those of "an entry" with
+/// the entry that it is; and no others speak of one.
+fn printed(refusal: Refusal) -> String {
+    let words = refusal.words();
+    match (refusal.place(), words.strip_prefix("an entry ")) {
+        (Some(place), Some(rest)) => format!("entry {place} {rest}"),
+        (None, None) => words.to_string(),
+        _ => panic!("{words}: a place and no entry, or an entry and no place"),
+    }
+}
+
 /// What a `main` prints that gives a refusal back: its number and its words.
 #[test]
 fn refusals_say_what_is_wrong() {
-    for refusal in Refusal::ALL {
-        let said = format!("{}: {}", refusal.number(), refusal.words());
-        assert_eq!(refusal.to_string(), said);
-        assert_eq!(format!("{refusal:?}"), said);
-        let error: Box<dyn Error> = (*refusal).into();
-        assert_eq!(format!("{error:?}"), said);
+    for number in 1..=Refusal::ALL.len() {
+        for place in [0, 17, 4_095] {
+            let refusal = Refusal::from_number(number, place).unwrap();
+            let said = format!("{number}: {}", printed(refusal));
+            assert_eq!(refusal.to_string(), said);
+            assert_eq!(format!("{refusal:?}"), said);
+            let error: Box<dyn Error> = refusal.into();
+            assert_eq!(format!("{error:?}"), said);
+        }
     }
+    let bad = Refusal::BadEntry(17).to_string();
+    assert_eq!(bad, "5: entry 17 is neither free nor a user slot");
+    let twice = Refusal::NamedTwice(17).to_string();
+    assert_eq!(twice, "6: entry 17 repeats an earlier one");
 }

@@ -297,20 +297,16 @@ pub fn damage(random: &mut Random, job: &mut Job) {
             job.places[g] = twice;
             job.places[h] = twice;
         }
-        // an entry on a spare
         2 | 3 => {
-            let spares: Vec<usize> = ranges(&job.caps).iter().map(|r| r.end - 1).collect();
-            if !spares.is_empty() && slots > 0 {
+            if !job.caps.is_empty() && slots > 0 {
                 let g = any_slot(random);
-                job.places[g] = random.pick(&spares) as u16;
+                job.places[g] = on_a_spare(random, &job.caps);
             }
         }
-        // an entry that is no slot
         4 => {
             if slots > 0 {
                 let g = any_slot(random);
-                let far = random.next() as u16;
-                job.places[g] = random.pick(&[slots as u16, (slots + 1) as u16, HAND, 65_533, far]);
+                job.places[g] = no_slot(random, slots);
             }
         }
         5 => {
@@ -367,6 +363,36 @@ pub fn damage(random: &mut Random, job: &mut Job) {
             }
             _ => job.caps.resize(random.pick(&[64, 66, 128, 256, 320]), 1),
         },
+    }
+}
+
+/// An entry on a spare. There are racks.
+fn on_a_spare(random: &mut Random, caps: &[u16]) -> u16 {
+    let spares: Vec<usize> = ranges(caps).iter().map(|r| r.end - 1).collect();
+    random.pick(&spares) as u16
+}
+
+/// An entry that is no slot, or that is anything.
+fn no_slot(random: &mut Random, slots: usize) -> u16 {
+    let far = random.next() as u16;
+    random.pick(&[slots as u16, (slots + 1) as u16, HAND, 65_533, far])
+}
+
+/// Several wrong entries in a legal job: bad ones, or such as repeat others, or both.
+/// So the lowest is not the last, and of two the earlier is not the later.
+pub fn wrong_entries(random: &mut Random, job: &mut Job) {
+    let slots = job.places.len();
+    let mut named = job.places.clone();
+    named.retain(|&entry| entry != FREE);
+    let kind = random.below(3);
+    for _ in 0..random.between(2, 7) {
+        let g = random.below(slots);
+        let bad = kind == 0 || (kind == 1 && random.once_in(2)) || named.is_empty();
+        job.places[g] = match bad {
+            true if random.once_in(2) => on_a_spare(random, &job.caps),
+            true => no_slot(random, slots),
+            false => random.pick(&named),
+        };
     }
 }
 
@@ -491,10 +517,13 @@ pub fn damaged_file(random: &mut Random, job: &Job) -> Vec<u8> {
                     .pick(&[
                         &[0x80, 0x80, 0x80][..],
                         &[0xff, 0xff, 0xff],
+                        &[0x80, 0x80, 0x80, 0x00],
                         &[0x80, 0x80, 0x80, 0x01],
+                        &[0xff, 0xff, 0xff, 0xff],
                         &[0xff, 0xff, 0x7f],
                         &[0x80, 0x00],
                         &[0x80, 0x80, 0x00],
+                        &[0xff, 0xff, 0x00],
                         &[0x80, 0x80, 0x01],
                         &[0x80],
                         &[],

@@ -4,7 +4,7 @@
 use super::{Answer, FileAnswer, Mover, SizeAnswer, SlotAnswer};
 
 /// Faults are numbered from 1; 0 is none.
-pub const FAULTS: usize = 27;
+pub const FAULTS: usize = 44;
 
 /// Those of them that write a wrong file.
 pub const WRONG_FILES: std::ops::RangeInclusive<usize> = 19..=22;
@@ -23,12 +23,24 @@ impl<M: Mover> Faulty<M> {
         assert!(fault <= FAULTS, "FAULT is at most {FAULTS}");
         Faulty { inner, fault }
     }
+
+    /// Makes the fault in the place of a call, where it is the call's own.
+    fn misplace(
+        &self,
+        fault: usize,
+        caps: &[u16],
+        places: &[u16],
+        number: usize,
+        place: &mut usize,
+    ) {
+        if self.fault == fault {
+            *place = wrong_place(fault, number, *place, caps, places).unwrap_or(*place);
+        }
+    }
 }
 
 fn has_double(places: &[u16]) -> bool {
-    let mut cards: Vec<u16> = places.iter().copied().filter(|&e| e != FREE).collect();
-    cards.sort_unstable();
-    cards.windows(2).any(|two| two[0] == two[1])
+    !doubles(places).is_empty()
 }
 
 fn refused(number: usize) -> SizeAnswer {
@@ -36,6 +48,88 @@ fn refused(number: usize) -> SizeAnswer {
         number,
         ..SizeAnswer::default()
     }
+}
+
+/// The pairs of entries that name one slot, the earlier and the later, by the earlier.
+fn doubles(places: &[u16]) -> Vec<(usize, usize)> {
+    let mut cards: Vec<usize> = (0..places.len()).filter(|&g| places[g] != FREE).collect();
+    cards.sort_by_key(|&g| (places[g], g));
+    let mut pairs: Vec<(usize, usize)> = cards
+        .windows(2)
+        .filter(|two| places[two[0]] == places[two[1]])
+        .map(|two| (two[0], two[1]))
+        .collect();
+    pairs.sort_unstable();
+    pairs
+}
+
+/// Where the racks begin, and S.
+fn bases(caps: &[u16]) -> Vec<usize> {
+    let mut bases = vec![0];
+    for &m in caps {
+        bases.push(bases[bases.len() - 1] + usize::from(m) + 1);
+    }
+    bases
+}
+
+/// The slots of the entries that are on a spare or are no slot.
+fn bad_entries(caps: &[u16], places: &[u16]) -> Vec<usize> {
+    let bases = bases(caps);
+    let bad = |entry: usize| entry >= places.len() || bases.contains(&(entry + 1));
+    (0..places.len())
+        .filter(|&g| places[g] != FREE && bad(places[g].into()))
+        .collect()
+}
+
+/// The place that a fault gives a 5 or a 6 that has this one; none where it is right.
+fn wrong_place(
+    fault: usize,
+    number: usize,
+    place: usize,
+    caps: &[u16],
+    places: &[u16],
+) -> Option<usize> {
+    let outside = |&g: &usize| usize::from(places[g]) >= places.len();
+    let in_its_rack = || {
+        let mut first = bases(caps);
+        first.retain(|&base| base <= place);
+        Some(place - first[first.len() - 1])
+    };
+    match (fault, number) {
+        // The last bad entry.
+        (28, 5) => bad_entries(caps, places).pop(),
+        // An entry that is no slot before a lower one on a spare.
+        (29, 5) => bad_entries(caps, places).into_iter().find(outside),
+        // The earlier of the two.
+        (30, 6) => doubles(places)
+            .into_iter()
+            .find_map(|(earlier, later)| (later == place).then_some(earlier)),
+        // The last entry that repeats an earlier one.
+        (31, 6) => doubles(places).into_iter().map(|two| two.1).max(),
+        // The entry that repeats the lowest of those that are repeated.
+        (32, 6) => doubles(places).first().map(|two| two.1),
+        // Entries are counted from 1.
+        (33, 5 | 6) => Some(place + 1),
+        // The slot that the entry names.
+        (34, 5 | 6) => Some(places[place].into()),
+        // The place is forgotten.
+        (35, 5 | 6) => Some(0),
+        // It is cut to 8 bits.
+        (36, 5 | 6) => Some(place & 0xff),
+        // Slots are counted in their rack.
+        (37, 5 | 6) => in_its_rack(),
+        _ => None,
+    }
+}
+
+/// The byte of a file where its entry begins: it comes after N, B, the capacities and
+/// the entries before it.
+fn byte_of_entry(file: &[u8], entry: usize) -> usize {
+    let numbers_before = 2 + usize::from(file[0]) + entry;
+    let ends = file.iter().enumerate().filter(|end| *end.1 < 0x80);
+    ends.map(|end| end.0 + 1)
+        .nth(numbers_before - 1)
+        .unwrap_or(0)
 }
 
 /// Puts a number behind what a file has.
@@ -105,6 +199,8 @@ impl<M: Mover> Mover for Faulty<M> {
         if self.fault == 1 && answer.number == 5 && has_double(places) {
             answer.number = 6;
         }
+        self.misplace(28, caps, places, answer.number, &mut answer.place);
+        self.misplace(29, caps, places, answer.number, &mut answer.place);
         answer
     }
 
@@ -114,6 +210,7 @@ impl<M: Mover> Mover for Faulty<M> {
         if self.fault == 2 && answer.number == 0 && slot + 1 == places.len() {
             answer.kind = 1;
         }
+        self.misplace(30, caps, places, answer.number, &mut answer.place);
         // A slot number is cut to 32 bits.
         if self.fault == 3 {
             return self.inner.slot_question(caps, places, slot & 0xffff_ffff);
@@ -122,7 +219,8 @@ impl<M: Mover> Mover for Faulty<M> {
     }
 
     fn phase_plan(&self, caps: &[u16], places: &[u16], list: &mut [u16]) -> Answer {
-        let answer = self.inner.phase_plan(caps, places, list);
+        let mut answer = self.inner.phase_plan(caps, places, list);
+        self.misplace(31, caps, places, answer.number, &mut answer.place);
         // An end mark behind the pairs.
         if self.fault == 4 && answer.number == 0 {
             if let Some(behind) = list.get_mut(2 * answer.moves) {
@@ -167,6 +265,11 @@ impl<M: Mover> Mover for Faulty<M> {
         if self.fault == 7 && answer.number == 10 && places[to] != FREE {
             answer.number = 11;
         }
+        self.misplace(36, caps, places, answer.number, &mut answer.place);
+        // Where the table ends goes with 4.
+        if self.fault == 39 && answer.number == 4 {
+            answer.place = places.len();
+        }
         answer
     }
 
@@ -180,7 +283,8 @@ impl<M: Mover> Mover for Faulty<M> {
     ) -> Answer {
         // The allowance is cut to 32 bits.
         let k = if self.fault == 8 { k & 0xffff_ffff } else { k };
-        let answer = self.inner.budgeted_moves(caps, b, places, cards, k);
+        let mut answer = self.inner.budgeted_moves(caps, b, places, cards, k);
+        self.misplace(32, caps, places, answer.number, &mut answer.place);
         // A budget of nothing is done without a look at the table.
         if self.fault == 9 && k == 0 && answer.number == 6 {
             return Answer::default();
@@ -197,6 +301,12 @@ impl<M: Mover> Mover for Faulty<M> {
                 ..Answer::default()
             };
         }
+        self.misplace(37, caps, places, answer.number, &mut answer.place);
+        // A card that is not settled goes with 12.
+        if self.fault == 38 && answer.number == 12 {
+            let unsettled = |g: &usize| places[*g] != FREE && usize::from(places[*g]) != *g;
+            answer.place = (0..places.len()).find(unsettled).unwrap_or(0);
+        }
         answer
     }
 
@@ -208,7 +318,8 @@ impl<M: Mover> Mover for Faulty<M> {
         cards: &mut [u8],
     ) -> Answer {
         let (old_places, old_cards) = (places.to_vec(), cards.to_vec());
-        let answer = self.inner.shuffle_cards(caps, b, places, cards);
+        let mut answer = self.inner.shuffle_cards(caps, b, places, cards);
+        self.misplace(33, caps, places, answer.number, &mut answer.place);
         // Old bytes stay in slots that were free all along.
         if self.fault == 11 && answer.number == 0 {
             for slot in 0..places.len() {
@@ -235,11 +346,12 @@ impl<M: Mover> Mover for Faulty<M> {
         if self.fault == 14 && answer.number == 2 && caps.iter().any(|&m| m > 1_023) {
             answer.number = 3;
         }
+        self.misplace(35, caps, places, answer.number, &mut answer.place);
         answer
     }
 
     fn read_file(&self, file: &[u8], caps: &mut [u16], places: &mut [u16]) -> FileAnswer {
-        let answer = self.inner.read_file(file, caps, places);
+        let mut answer = self.inner.read_file(file, caps, places);
         // The capacities are written before the room for the places is seen.
         if self.fault == 15 && answer.number == 17 && !caps.is_empty() {
             caps[0] = u16::from(file[2]);
@@ -247,6 +359,22 @@ impl<M: Mover> Mover for Faulty<M> {
         // Bytes left over are passed over.
         if self.fault == 16 && answer.number == 16 {
             return self.inner.read_file(&file[..file.len() - 1], caps, places);
+        }
+        // The entry's byte, not its slot.
+        if self.fault == 40 && matches!(answer.number, 5 | 6) {
+            answer.place = byte_of_entry(file, answer.place);
+        }
+        // A number of four groups is one that is padded.
+        if self.fault == 41 && answer.number == 20 {
+            answer.number = 14;
+        }
+        // A fourth group is asked for before its number is refused.
+        let long = |three: &[u8]| three.iter().all(|&x| x >= 0x80);
+        if self.fault == 42
+            && answer.number == 20
+            && file.windows(3).position(long) == Some(file.len() - 3)
+        {
+            answer.number = 15;
         }
         answer
     }
@@ -260,7 +388,8 @@ impl<M: Mover> Mover for Faulty<M> {
         out: &mut [u8],
     ) -> SizeAnswer {
         let old = out.to_vec();
-        let answer = self.inner.write_file(caps, b, places, cards, out);
+        let mut answer = self.inner.write_file(caps, b, places, cards, out);
+        self.misplace(34, caps, places, answer.number, &mut answer.place);
         // A wrong file, but as the rules ask for all else: 19 where it is too long, and
         // what stood behind it.
         if matches!(answer.number, 0 | 19) {
@@ -306,7 +435,16 @@ impl<M: Mover> Mover for Faulty<M> {
         if self.fault == 17 && file.len() == 32_768 {
             return self.inner.list_job(&[file, &[0]].concat(), out);
         }
-        let answer = self.inner.list_job(file, out);
+        let mut answer = self.inner.list_job(file, out);
+        // The reader's place goes with the text that says its number.
+        if self.fault == 43 && answer.number == 0 {
+            let (caps, places) = (&mut [0; 64], &mut [0; 4_096]);
+            answer.place = self.inner.read_file(file, caps, places).place;
+        }
+        // The listing's reader knows no 20.
+        if self.fault == 44 && answer.number == 0 && out.starts_with(b"refused 20\n") {
+            out[8..10].copy_from_slice(b"14");
+        }
         // A text that does not fit is begun.
         if self.fault == 18 && answer.number == 13 && !out.is_empty() {
             out[0] = b'p';

@@ -3,8 +3,9 @@
 //! This is the yardstick of the differential test, so it stays simple: every
 //! phase is planned anew, every list is made in full before anything is
 //! written, and the functions carry the page's own words. Racks are i and p,
-//! slots are g, as on the page. Of the proved library it takes the shape of the
-//! answers alone, so that they can be compared.
+//! slots are g, as on the page; `places` is the table, `place` the slot that
+//! goes with a refusal. Of the proved library it takes the shape of the answers
+//! alone, so that they can be compared.
 
 #![allow(dead_code)]
 
@@ -20,13 +21,42 @@ const MAX_PROGRAM_FILE: usize = 32_768;
 const FREE: u16 = 65_535;
 const HAND: u16 = 65_534;
 
-/// "All counts are 0 on a refusal."
-fn refused(number: usize) -> Answer {
-    Answer {
-        number,
-        ..Answer::default()
-    }
+// ---------------------------------------------------------------------------
+// Refusals
+
+/// A number given back that is not 0, and the place that goes with it.
+struct Refusal {
+    number: usize,
+    place: usize,
 }
+
+/// "Numbers 5 and 6 now come with the slot."
+fn refuse_at<T>(number: usize, place: usize) -> Result<T, Refusal> {
+    Err(Refusal { number, place })
+}
+
+/// "The place is 0 for all other numbers."
+fn refuse<T>(number: usize) -> Result<T, Refusal> {
+    refuse_at(number, 0)
+}
+
+/// The number and its place in each kind of answer: all counts "are 0 on a
+/// refusal", and "every other number given is 0".
+macro_rules! give_refusals {
+    ($($answer:ident)*) => {
+        $(impl From<Refusal> for $answer {
+            fn from(refusal: Refusal) -> $answer {
+                $answer {
+                    number: refusal.number,
+                    place: refusal.place,
+                    ..$answer::default()
+                }
+            }
+        })*
+    };
+}
+
+give_refusals!(Answer SlotAnswer FileAnswer SizeAnswer);
 
 // ---------------------------------------------------------------------------
 // Racks and slots
@@ -94,45 +124,49 @@ impl Racks {
 // ---------------------------------------------------------------------------
 // Checks, in the order of the page's list
 
-fn check_racks(caps: &[u16]) -> Result<(), usize> {
-    if caps.is_empty() || caps.len() > MAX_RACKS {
-        return Err(1);
+fn check_racks(n: usize) -> Result<(), Refusal> {
+    if n == 0 || n > MAX_RACKS {
+        return refuse(1);
     }
     Ok(())
 }
 
-fn check_card(b: usize) -> Result<(), usize> {
+fn check_card(b: usize) -> Result<(), Refusal> {
     if b == 0 || b > MAX_CARD {
-        return Err(2);
+        return refuse(2);
     }
     Ok(())
 }
 
 /// Only after 1: at most 64 capacities of 16 bits have a true sum.
-fn check_capacities(caps: &[u16]) -> Result<Racks, usize> {
+fn check_capacities(caps: &[u16]) -> Result<Racks, Refusal> {
     let too_large = caps.iter().any(|&m| usize::from(m) > MAX_CAPACITY);
     let total: usize = caps.iter().map(|&m| usize::from(m)).sum();
     if too_large || total > MAX_TOTAL {
-        return Err(3);
+        return refuse(3);
     }
     Ok(Racks::new(caps))
 }
 
-/// 5 anywhere comes before 6 anywhere.
-fn check_entries(racks: &Racks, places: &[u16]) -> Result<(), usize> {
-    for &entry in places {
+/// "For 5 the lowest bad entry." 5 anywhere comes before 6 anywhere.
+fn check_entries(racks: &Racks, places: &[u16]) -> Result<(), Refusal> {
+    for (g, &entry) in places.iter().enumerate() {
         if entry != FREE && !racks.is_user_slot(usize::from(entry)) {
-            return Err(5);
+            return refuse_at(5, g);
         }
     }
     check_named_once(racks, places)
 }
 
-fn check_named_once(racks: &Racks, places: &[u16]) -> Result<(), usize> {
+/// "For 6 the lowest entry that repeats an earlier one." Only after 5.
+fn check_named_once(racks: &Racks, places: &[u16]) -> Result<(), Refusal> {
     let mut named = vec![false; racks.total_slots()];
-    for &entry in places.iter().filter(|&&entry| entry != FREE) {
+    for (g, &entry) in places.iter().enumerate() {
+        if entry == FREE {
+            continue;
+        }
         if named[usize::from(entry)] {
-            return Err(6);
+            return refuse_at(6, g);
         }
         named[usize::from(entry)] = true;
     }
@@ -140,11 +174,11 @@ fn check_named_once(racks: &Racks, places: &[u16]) -> Result<(), usize> {
 }
 
 /// 1, 3, 4, 5, 6: for the calls that are lent no cards.
-fn check_job(caps: &[u16], places: &[u16]) -> Result<Racks, usize> {
-    check_racks(caps)?;
+fn check_job(caps: &[u16], places: &[u16]) -> Result<Racks, Refusal> {
+    check_racks(caps.len())?;
     let racks = check_capacities(caps)?;
     if places.len() != racks.total_slots() {
-        return Err(4);
+        return refuse(4);
     }
     check_entries(&racks, places)?;
     Ok(racks)
@@ -156,29 +190,29 @@ fn check_job_with_cards(
     b: usize,
     places: &[u16],
     cards: &[u8],
-) -> Result<Racks, usize> {
-    check_racks(caps)?;
+) -> Result<Racks, Refusal> {
+    check_racks(caps.len())?;
     check_card(b)?;
     let racks = check_capacities(caps)?;
     // No overflow: S is at most 4,096 and B at most 256 here.
     if places.len() != racks.total_slots() || cards.len() != racks.total_slots() * b {
-        return Err(4);
+        return refuse(4);
     }
     check_entries(&racks, places)?;
     Ok(racks)
 }
 
-fn check_nothing_away(racks: &Racks, places: &[u16]) -> Result<(), usize> {
+fn check_nothing_away(racks: &Racks, places: &[u16]) -> Result<(), Refusal> {
     if racks.cards_away(places) > 0 {
-        return Err(12);
+        return refuse(12);
     }
     Ok(())
 }
 
 /// The pairs of a plan, or the steps of a copy list, to the front of a list.
-fn write_pairs(pairs: &[(u16, u16)], list: &mut [u16]) -> Result<(), usize> {
+fn write_pairs(pairs: &[(u16, u16)], list: &mut [u16]) -> Result<(), Refusal> {
     if list.len() < 2 * pairs.len() {
-        return Err(13);
+        return refuse(13);
     }
     for (two, &(from, to)) in list.chunks_exact_mut(2).zip(pairs) {
         two[0] = from;
@@ -343,21 +377,18 @@ fn run_copies(b: usize, places: &mut [u16], cards: &mut [u8]) -> usize {
 pub fn check_table(caps: &[u16], places: &[u16]) -> Answer {
     match check_job(caps, places) {
         Ok(_) => Answer::default(),
-        Err(number) => refused(number),
+        Err(refusal) => refusal.into(),
     }
 }
 
 pub fn slot_question(caps: &[u16], places: &[u16], slot: usize) -> SlotAnswer {
-    let none = |number| SlotAnswer {
-        number,
-        ..SlotAnswer::default()
-    };
-    let racks = match check_job(caps, places) {
-        Ok(racks) => racks,
-        Err(number) => return none(number),
-    };
+    try_slot_question(caps, places, slot).unwrap_or_else(SlotAnswer::from)
+}
+
+fn try_slot_question(caps: &[u16], places: &[u16], slot: usize) -> Result<SlotAnswer, Refusal> {
+    let racks = check_job(caps, places)?;
     if slot >= racks.total_slots() {
-        return none(7);
+        return refuse(7);
     }
     let kind = if racks.is_spare(slot) { 2 } else { 1 };
     let (state, rack) = if places[slot] == FREE {
@@ -370,19 +401,19 @@ pub fn slot_question(caps: &[u16], places: &[u16], slot: usize) -> SlotAnswer {
             Some(p) => (4, p),
         }
     };
-    SlotAnswer {
+    Ok(SlotAnswer {
         kind,
         state,
         rack,
         ..SlotAnswer::default()
-    }
+    })
 }
 
 pub fn phase_plan(caps: &[u16], places: &[u16], list: &mut [u16]) -> Answer {
-    try_phase_plan(caps, places, list).unwrap_or_else(refused)
+    try_phase_plan(caps, places, list).unwrap_or_else(Answer::from)
 }
 
-fn try_phase_plan(caps: &[u16], places: &[u16], list: &mut [u16]) -> Result<Answer, usize> {
+fn try_phase_plan(caps: &[u16], places: &[u16], list: &mut [u16]) -> Result<Answer, Refusal> {
     let racks = check_job(caps, places)?;
     let pairs = plan(&racks, places);
     write_pairs(&pairs, list)?;
@@ -400,7 +431,7 @@ pub fn one_move(
     from: usize,
     to: usize,
 ) -> Answer {
-    try_one_move(caps, b, places, cards, from, to).unwrap_or_else(refused)
+    try_one_move(caps, b, places, cards, from, to).unwrap_or_else(Answer::from)
 }
 
 fn try_one_move(
@@ -410,22 +441,22 @@ fn try_one_move(
     cards: &mut [u8],
     from: usize,
     to: usize,
-) -> Result<Answer, usize> {
+) -> Result<Answer, Refusal> {
     let racks = check_job_with_cards(caps, b, places, cards)?;
     if from >= racks.total_slots() || to >= racks.total_slots() {
-        return Err(7);
+        return refuse(7);
     }
     let Some(destination_rack) = racks.bound_for(places, from) else {
-        return Err(8);
+        return refuse(8);
     };
     if destination_rack == racks.rack_of[from] {
-        return Err(9);
+        return refuse(9);
     }
     if racks.rack_of[to] != destination_rack {
-        return Err(10);
+        return refuse(10);
     }
     if places[to] != FREE {
-        return Err(11);
+        return refuse(11);
     }
     carry(b, places, cards, from, to);
     Ok(Answer {
@@ -441,7 +472,7 @@ pub fn budgeted_moves(
     cards: &mut [u8],
     k: usize,
 ) -> Answer {
-    try_budgeted_moves(caps, b, places, cards, k).unwrap_or_else(refused)
+    try_budgeted_moves(caps, b, places, cards, k).unwrap_or_else(Answer::from)
 }
 
 fn try_budgeted_moves(
@@ -450,7 +481,7 @@ fn try_budgeted_moves(
     places: &mut [u16],
     cards: &mut [u8],
     k: usize,
-) -> Result<Answer, usize> {
+) -> Result<Answer, Refusal> {
     let racks = check_job_with_cards(caps, b, places, cards)?;
     let mut moves = 0;
     while moves < k {
@@ -470,10 +501,10 @@ fn try_budgeted_moves(
 }
 
 pub fn copy_list(caps: &[u16], places: &[u16], list: &mut [u16]) -> Answer {
-    try_copy_list(caps, places, list).unwrap_or_else(refused)
+    try_copy_list(caps, places, list).unwrap_or_else(Answer::from)
 }
 
-fn try_copy_list(caps: &[u16], places: &[u16], list: &mut [u16]) -> Result<Answer, usize> {
+fn try_copy_list(caps: &[u16], places: &[u16], list: &mut [u16]) -> Result<Answer, Refusal> {
     let racks = check_job(caps, places)?;
     check_nothing_away(&racks, places)?;
     let steps = copies(places);
@@ -485,7 +516,7 @@ fn try_copy_list(caps: &[u16], places: &[u16], list: &mut [u16]) -> Result<Answe
 }
 
 pub fn shuffle_cards(caps: &[u16], b: usize, places: &mut [u16], cards: &mut [u8]) -> Answer {
-    try_shuffle_cards(caps, b, places, cards).unwrap_or_else(refused)
+    try_shuffle_cards(caps, b, places, cards).unwrap_or_else(Answer::from)
 }
 
 fn try_shuffle_cards(
@@ -493,7 +524,7 @@ fn try_shuffle_cards(
     b: usize,
     places: &mut [u16],
     cards: &mut [u8],
-) -> Result<Answer, usize> {
+) -> Result<Answer, Refusal> {
     let racks = check_job_with_cards(caps, b, places, cards)?;
     check_nothing_away(&racks, places)?;
     Ok(Answer {
@@ -503,7 +534,7 @@ fn try_shuffle_cards(
 }
 
 pub fn whole_run(caps: &[u16], b: usize, places: &mut [u16], cards: &mut [u8]) -> Answer {
-    try_whole_run(caps, b, places, cards).unwrap_or_else(refused)
+    try_whole_run(caps, b, places, cards).unwrap_or_else(Answer::from)
 }
 
 fn try_whole_run(
@@ -511,7 +542,7 @@ fn try_whole_run(
     b: usize,
     places: &mut [u16],
     cards: &mut [u8],
-) -> Result<Answer, usize> {
+) -> Result<Answer, Refusal> {
     let racks = check_job_with_cards(caps, b, places, cards)?;
     let mut tally = Answer::default();
     // Theorem 2 of the paper: a plan has pairs while a card is away.
@@ -533,29 +564,77 @@ fn try_whole_run(
 // ---------------------------------------------------------------------------
 // Job files
 
-/// Takes one number at a time and remembers its place in the file.
+/// "Takes one number at a time and remembers its place in the file."
 struct Reader<'a> {
     file: &'a [u8],
-    place: usize,
+    /// the byte that comes next
+    at: usize,
 }
 
 impl Reader<'_> {
-    fn number(&mut self) -> Result<usize, usize> {
+    /// "Form (14, 15)", and 20 "in 14's place in the order".
+    fn number(&mut self) -> Result<usize, Refusal> {
         let mut value = 0;
         for group in 0..3 {
-            let Some(&byte) = self.file.get(self.place) else {
-                return Err(15);
+            let Some(&byte) = self.file.get(self.at) else {
+                return refuse(15);
             };
-            self.place += 1;
+            self.at += 1;
             value |= usize::from(byte & 0x7f) << (7 * group);
             if byte & 0x80 == 0 {
-                // A last group of zero could have been left out.
-                let shortest = group == 0 || byte != 0;
-                return if shortest { Ok(value) } else { Err(14) };
+                // "Padded beyond its shortest form": a last group of zero
+                // could have been left out.
+                let padded = group > 0 && byte == 0;
+                return if padded { refuse(14) } else { Ok(value) };
             }
         }
-        // The third group says that another follows.
-        Err(14)
+        // "More than three groups": the third says that another follows.
+        refuse(20)
+    }
+
+    /// "m_p and running total": 3.
+    fn capacities(&mut self, n: usize) -> Result<Vec<u16>, Refusal> {
+        let mut caps = Vec::with_capacity(n);
+        let mut total = 0;
+        for _ in 0..n {
+            let m = self.number()?;
+            total += m;
+            if m > MAX_CAPACITY || total > MAX_TOTAL {
+                return refuse(3);
+            }
+            caps.push(m as u16);
+        }
+        Ok(caps)
+    }
+
+    /// "An entry's slot (5)" is "checked as read", so the first bad entry is the
+    /// lowest; its place is the slot, not a byte. "After the last entry come 6."
+    fn places(&mut self, racks: &Racks) -> Result<Vec<u16>, Refusal> {
+        let mut places = Vec::with_capacity(racks.total_slots());
+        for g in 0..racks.total_slots() {
+            let entry = self.number()?;
+            if entry == 0 {
+                places.push(FREE);
+            } else if racks.is_user_slot(entry - 1) {
+                places.push((entry - 1) as u16);
+            } else {
+                return refuse_at(5, g);
+            }
+        }
+        check_named_once(racks, &places)?;
+        Ok(places)
+    }
+
+    /// "15 or 16 for the card bytes."
+    fn check_card_bytes(&self, card_bytes: usize) -> Result<(), Refusal> {
+        let left = self.file.len() - self.at;
+        if left < card_bytes {
+            return refuse(15);
+        }
+        if left > card_bytes {
+            return refuse(16);
+        }
+        Ok(())
     }
 }
 
@@ -565,83 +644,48 @@ struct Job {
     racks: Racks,
     places: Vec<u16>,
     /// where the card bytes begin in the file
-    place: usize,
+    start: usize,
 }
 
 /// All of the reader's checks but 17.
-fn read_job(file: &[u8]) -> Result<Job, usize> {
-    let mut reader = Reader { file, place: 0 };
+fn read_job(file: &[u8]) -> Result<Job, Refusal> {
+    let mut reader = Reader { file, at: 0 };
     let n = reader.number()?;
-    if n == 0 || n > MAX_RACKS {
-        return Err(1);
-    }
+    check_racks(n)?;
     let b = reader.number()?;
     check_card(b)?;
-
-    let mut caps = Vec::with_capacity(n);
-    let mut total = 0;
-    for _ in 0..n {
-        let m = reader.number()?;
-        total += m;
-        if m > MAX_CAPACITY || total > MAX_TOTAL {
-            return Err(3);
-        }
-        caps.push(m as u16);
-    }
-
+    let caps = reader.capacities(n)?;
     let racks = Racks::new(&caps);
-    let mut places = Vec::with_capacity(racks.total_slots());
-    for _ in 0..racks.total_slots() {
-        let entry = reader.number()?;
-        if entry == 0 {
-            places.push(FREE);
-        } else if racks.is_user_slot(entry - 1) {
-            places.push((entry - 1) as u16);
-        } else {
-            return Err(5);
-        }
-    }
-    check_named_once(&racks, &places)?;
-
-    let card_bytes = racks.total_slots() * b;
-    let left = file.len() - reader.place;
-    if left < card_bytes {
-        return Err(15);
-    }
-    if left > card_bytes {
-        return Err(16);
-    }
+    let places = reader.places(&racks)?;
+    reader.check_card_bytes(racks.total_slots() * b)?;
     Ok(Job {
         caps,
         b,
         racks,
         places,
-        place: reader.place,
+        start: reader.at,
     })
 }
 
 pub fn read_file(file: &[u8], caps: &mut [u16], places: &mut [u16]) -> FileAnswer {
-    let refused = |number| FileAnswer {
-        number,
-        ..FileAnswer::default()
-    };
-    let job = match read_job(file) {
-        Ok(job) => job,
-        Err(number) => return refused(number),
-    };
+    try_read_file(file, caps, places).unwrap_or_else(FileAnswer::from)
+}
+
+fn try_read_file(file: &[u8], caps: &mut [u16], places: &mut [u16]) -> Result<FileAnswer, Refusal> {
+    let job = read_job(file)?;
     let (n, s) = (job.caps.len(), job.places.len());
     if caps.len() < n || places.len() < s {
-        return refused(17);
+        return refuse(17);
     }
     caps[..n].copy_from_slice(&job.caps);
     places[..s].copy_from_slice(&job.places);
-    FileAnswer {
+    Ok(FileAnswer {
         racks: n,
         bytes: job.b,
         slots: s,
-        place: job.place,
+        start: job.start,
         ..FileAnswer::default()
-    }
+    })
 }
 
 /// A number in groups of seven bits, lowest first, the top bit set where
@@ -678,12 +722,17 @@ fn file_of_job(caps: &[u16], b: usize, places: &[u16], cards: &[u8]) -> Vec<u8> 
     file
 }
 
-/// The number, all counts and the length 0.
-fn refused_write(number: usize) -> SizeAnswer {
-    SizeAnswer {
-        number,
-        ..SizeAnswer::default()
+/// The bytes to the front of the buffer, or the number `too_short` where it is
+/// shorter; what is behind them stays.
+fn write_bytes(bytes: &[u8], buffer: &mut [u8], too_short: usize) -> Result<SizeAnswer, Refusal> {
+    if buffer.len() < bytes.len() {
+        return refuse(too_short);
     }
+    buffer[..bytes.len()].copy_from_slice(bytes);
+    Ok(SizeAnswer {
+        size: bytes.len(),
+        ..SizeAnswer::default()
+    })
 }
 
 /// The job's file to the front of the buffer.
@@ -694,45 +743,28 @@ pub fn write_file(
     cards: &[u8],
     buffer: &mut [u8],
 ) -> SizeAnswer {
-    try_write_file(caps, b, places, cards, buffer).unwrap_or_else(refused_write)
+    try_write_file(caps, b, places, cards, buffer).unwrap_or_else(SizeAnswer::from)
 }
 
-/// 1 to 6, then 19; the bytes behind the file stay.
+/// 1 to 6, then 19.
 fn try_write_file(
     caps: &[u16],
     b: usize,
     places: &[u16],
     cards: &[u8],
     buffer: &mut [u8],
-) -> Result<SizeAnswer, usize> {
+) -> Result<SizeAnswer, Refusal> {
     check_job_with_cards(caps, b, places, cards)?;
-    let file = file_of_job(caps, b, places, cards);
-    if buffer.len() < file.len() {
-        return Err(19);
-    }
-    buffer[..file.len()].copy_from_slice(&file);
-    Ok(SizeAnswer {
-        size: file.len(),
-        ..SizeAnswer::default()
-    })
+    write_bytes(&file_of_job(caps, b, places, cards), buffer, 19)
 }
 
 // ---------------------------------------------------------------------------
 // The program's listing
 
+/// A text that says `refused` is a text like any other: the number is 0 or 13,
+/// and so the place is 0.
 pub fn list_job(file: &[u8], out: &mut [u8]) -> SizeAnswer {
-    let text = listing(file);
-    if out.len() < text.len() {
-        return SizeAnswer {
-            number: 13,
-            ..SizeAnswer::default()
-        };
-    }
-    out[..text.len()].copy_from_slice(text.as_bytes());
-    SizeAnswer {
-        size: text.len(),
-        ..SizeAnswer::default()
-    }
+    write_bytes(listing(file).as_bytes(), out, 13).unwrap_or_else(SizeAnswer::from)
 }
 
 fn listing(file: &[u8]) -> String {
@@ -741,16 +773,17 @@ fn listing(file: &[u8]) -> String {
     }
     match read_job(file) {
         Ok(job) => listing_of_run(job, file),
-        Err(number) => refusal_line(number),
+        Err(refusal) => refusal_line(refusal.number),
     }
 }
 
+/// "Prints only one line, as `refused 14`, with its number."
 fn refusal_line(number: usize) -> String {
     format!("refused {number}\n")
 }
 
 fn listing_of_run(mut job: Job, file: &[u8]) -> String {
-    let mut cards = file[job.place..].to_vec();
+    let mut cards = file[job.start..].to_vec();
     let mut text = String::new();
     let mut phases = 0;
     let mut moves = 0;
