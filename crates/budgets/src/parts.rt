@@ -73,7 +73,7 @@ pub fn run_phase(
     let low = 2 * tally.moves;
     let planned = pairing::parts::plan_phase(ends, line, bits, log, low);
     let left = k - tally.moves;
-    let made = queues::parts::smaller(planned, left);
+    let made = racks::parts::smaller(planned, left);
     let high = low + 2 * made;
     let after = carrying::parts::carry(log, low, high, places, cards, b, tally);
     note_moves(log, low, high, racking, line, bits);

@@ -1,7 +1,7 @@
 -- Laws of `pairUp`: first with first, second with second. Assumes nothing.
 use mathlib.Core.Path.{_≡_, refl}
 use mathlib.Core.List.{List, [], _∷_, _++_}
-use Prim.Native.Nat.{ℕ, _≤_, min}
+use Prim.Native.Nat.{ℕ, zero, suc, _≤_, min}
 use native.Mathlib.Omega.{arith}
 use lib.ListN.{length, take}
 use lib.Seq.{take-nil}
@@ -17,12 +17,26 @@ length-pairUp [] b = omega arith
 length-pairUp (x ∷ a) [] = omega arith
 length-pairUp (x ∷ a) (y ∷ b) = omega (arith, length-pairUp a b)
 
+-- nothing to pair with
+pub pairUp-nil : (a : List ℕ) → pairUp a [] ≡ []
+unfolding pairUp
+pairUp-nil [] = refl
+pairUp-nil (x ∷ a) = refl
+
 -- of the former list no more is used than the latter has members
 pub pairUp-take : (a b : List ℕ) → pairUp (take (length b) a) b ≡ pairUp a b
 unfolding pairUp
 pairUp-take [] b = rw take-nil
 pairUp-take (x ∷ a) [] = refl
 pairUp-take (x ∷ a) (y ∷ b) = rw (pairUp-take a b)
+
+-- of both no more than the shorter has members
+pub pairUp-both : (m : ℕ) (a b : List ℕ) → min (length a) (length b) ≤ m → pairUp (take m a) (take m b) ≡ pairUp a b
+unfolding pairUp
+pairUp-both m [] b l = rw take-nil
+pairUp-both m (x ∷ a) [] l = rw take-nil (pairUp-nil (take m (x ∷ a)))
+pairUp-both zero (x ∷ a) (y ∷ b) l = absurd (omega arith)
+pairUp-both (suc m) (x ∷ a) (y ∷ b) l = rw (pairUp-both m a b (omega arith))
 
 -- and of the latter no more than the former has members
 pub pairUp-front : (a b c : List ℕ) → length a ≤ length b → pairUp a (b ++ c) ≡ pairUp a b
@@ -44,9 +58,3 @@ unfolding pairUp
 pairwise-pairUp end q = end
 pairwise-pairUp (link x p) end = end
 pairwise-pairUp (link x p) (link y q) = link (all-pairUp x y) (pairwise-pairUp p q)
-
--- nothing to pair with
-pub pairUp-nil : (a : List ℕ) → pairUp a [] ≡ []
-unfolding pairUp
-pairUp-nil [] = refl
-pairUp-nil (x ∷ a) = refl

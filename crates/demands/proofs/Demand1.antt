@@ -25,7 +25,7 @@ use Rattle.shuffle.specs.Shuffle.{shuffleChecks, shuffled}
 use Rattle.runs.specs.Run.{ran}
 use Rattle.racks.specs.Numbers.{tableChecks, cardChecks, rackChecks, placesChecks, refusalIn}
 use Rattle.racks.proofs.Places.{NoPlace, placeless-alone}
-use Rattle.mover.proofs.Ends.{ends-placeless}
+use Rattle.moves.proofs.Ends.{ends-placeless}
 use Rattle.answers.specs.Answers.{answer}
 use Rattle.answers.specs.declared.Tally.{Tally}
 use Rattle.numerals.specs.Numeral.{numeral, groups, numerals, lastGroup}
@@ -39,13 +39,13 @@ use Rattle.texts.proofs.Spelling.{refused-one}
 use Rattle.runtexts.specs.RunText.{runText}
 use Rattle.jobwriter.specs.Writing.{writeChecks, filed}
 use Rattle.listing.specs.Listing.{fileHeld, programChecks, listing, handedOver, printed}
-use Rattle.demands.specs.Accepted.{Accepted}
+use Rattle.conduct.specs.Accepted.{Accepted}
 use Rattle.demands.specs.Rows.{Row, None, Holds, Given, _then_}
 use Rattle.demands.specs.Conditions.{tableRows, cardRows}
 use Rattle.demands.specs.FileConditions.{fileRows, NoRoom, FileTooLarge}
 use Rattle.demands.specs.Places.{Answered, FileAnswered}
 use Rattle.demands.specs.Demand1.{Demand1}
-use Rattle.demands.proofs.Acceptance.{accepted-legal}
+use Rattle.conduct.proofs.Acceptance.{accepted-legal}
 use Rattle.demands.proofs.Rows.{given-none, given-row, holds-some, none-left, none-right}
 use Rattle.demands.proofs.Says.{says-or, says-lt, says-user, says-7, says-12, says-short}
 use Rattle.demands.proofs.CallRows.{given-table, given-cards, given-table-only, given-cards-only, given-ends}

@@ -12,11 +12,11 @@ use Rattle.moves.specs.Moves.{Held, held}
 use Rattle.jobfile.specs.Reading.{ahead, JobRead}
 use Rattle.jobfile.specs.declared.Reader.{Reader}
 use Rattle.jobfile.specs.declared.JobFile.{JobFile}
-use Rattle.demands.specs.Accepted.{Accepted}
+use Rattle.conduct.specs.Accepted.{Accepted}
 use Rattle.demands.specs.Rows.{None}
 use Rattle.demands.specs.Conditions.{tableRows, cardRows}
 use Rattle.demands.specs.EveryCall.{EveryCall, EveryCallTakes}
-use Rattle.demands.proofs.Acceptance.{accepted-table}
+use Rattle.conduct.proofs.Acceptance.{accepted-table}
 use Rattle.demands.proofs.Rows.{given-behind}
 use Rattle.demands.proofs.CallRows.{given-table-only, given-cards-only}
 use Rattle.demands.proofs.Demand1.{demand1}

@@ -9,7 +9,7 @@ use Rattle.parsing.specs.File.{Read, readM, fileBytes, filePlaces, fileCards}
 use Rattle.jobwriter.specs.Writing.{fileFor}
 use Rattle.roundtrip.proofs.ReadBack.{read-back, file-room}
 use Rattle.roundtrip.proofs.Calls.{read-written, file-again, written-read}
-use Rattle.demands.specs.Accepted.{Accepted}
+use Rattle.conduct.specs.Accepted.{Accepted}
 use Rattle.demands.specs.RoundTrip.{RoundTrip}
 
 -- two accepted jobs with one file

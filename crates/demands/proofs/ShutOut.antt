@@ -27,7 +27,7 @@ use Rattle.listing.specs.Listing.{listing}
 use Rattle.demands.specs.ShutOut.{Runner, MeetsRun, Budgeter, MeetsBudget, Planner, MeetsPlan, Phaser, MeetsPhases, ShutOutRuns, ShutOutBudgets, ShutOutPlans, ShutOutPhases, idleText, ShutOut}
 use Rattle.demands.specs.Paper.{caps1, held1, file1, paper}
 use Rattle.demands.proofs.CaseOne.{caps10, held10, after1, after10, refused10, planned1, cases}
-use Rattle.demands.proofs.Acceptance.{accepted-legal}
+use Rattle.conduct.proofs.Acceptance.{accepted-legal}
 
 -- the number, the moves and the first entry of an outcome
 abbrev numberOf : Outcome → ℕ

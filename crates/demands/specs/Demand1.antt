@@ -32,7 +32,7 @@ use Rattle.jobwriter.specs.Writing.{fileFor, filed}
 use Rattle.texts.specs.Lines.{refusedLine}
 use Rattle.runtexts.specs.RunText.{runText}
 use Rattle.listing.specs.Listing.{fileHeld, listing, printed}
-use Rattle.demands.specs.Accepted.{Accepted}
+use Rattle.conduct.specs.Accepted.{Accepted}
 use Rattle.jobfile.specs.Reading.{jobSeen}
 use Rattle.demands.specs.Rows.{None, Holds, Given, _then_}
 use Rattle.demands.specs.Conditions.{UserSlot, NoSlot, CardAway, TooShort, tableRows, cardRows, endRows}

@@ -21,7 +21,7 @@ use Rattle.jobfile.specs.declared.Reader.{Reader}
 use Rattle.jobfile.specs.declared.JobFile.{JobFile}
 use Rattle.jobwriter.specs.Writing.{fileFor, filed}
 use Rattle.demands.specs.Rows.{Given}
-use Rattle.demands.specs.Accepted.{OfAccepted}
+use Rattle.conduct.specs.Accepted.{OfAccepted}
 use Rattle.demands.specs.Conditions.{NoSlot, CardAway, TooShort, endRows}
 
 -- every call takes racks, B, a table and its cards

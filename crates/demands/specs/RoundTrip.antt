@@ -13,7 +13,7 @@ use Rattle.moves.specs.Moves.{held}
 use Rattle.parsing.specs.File.{read}
 use Rattle.jobwriter.specs.Writing.{fileFor, filed, WriteFile}
 use Rattle.roundtrip.specs.RoundTrip.{Bytes}
-use Rattle.demands.specs.Accepted.{Accepted}
+use Rattle.conduct.specs.Accepted.{Accepted}
 
 pub record RoundTrip : Type 0 where
   -- the first `size` bytes of the buffer that the writer leaves, read into lists with room: N, B, S, the capacities, the places and the card bytes

@@ -6,12 +6,12 @@ use native.Mathlib.Omega.{arith}
 use native.Mathlib.Decide.{ℕ-discrete, decLt}
 use lib.Dec.{ltb}
 use lib.ListN.{length, getD, set, length-set, replicate, length-replicate, getD-replicate}
-use lib.Seq.{getD-set-same, getD-set-other, ext-getD}
+use lib.Seq.{getD-set-same, getD-set-other}
 use borrow.Author.Tests.{lt-ltb, le-ltb}
 use Rattle.counting.specs.Tests.{bit}
 use Rattle.racks.specs.Racks.{Rack, base, slots, spareOf, isUser}
 use Rattle.racks.proofs.Geometry.{rack-is, user-is, user-none, end-le, spare-is, spare-end}
-use Rattle.entries.specs.parts.Marks.{FilledFrom, UsersMarked}
+use Rattle.entries.specs.parts.Marks.{FilledFrom, Cleared, UsersMarked}
 
 pub between-none : (low value : ℕ) (t : List ℕ) → FilledFrom low low value t t
 between-none low value t = record { inside = λ g l h. absurd (omega arith); below = λ g h. refl; above = λ g h l. refl; long = refl }
@@ -39,11 +39,13 @@ between-done low g high value before t l h e b =
       long = b .long;
     }
 
--- a list for all slots that is filled with 0
-pub cleared : (before t : List ℕ) → length before ≡ 4096 → FilledFrom 0 4096 0 before t → t ≡ replicate 4096 0
-cleared before t e b =
-    let l : length t ≡ 4096 = b .long ∙ e in
-    ext-getD 0 t (replicate 4096 0) (l ∙ sym (length-replicate {A = ℕ} 4096 0)) (λ g m. b .inside g (omega arith) (omega arith) ∙ sym (getD-replicate {A = ℕ} 4096 g 0 0 (omega arith)))
+-- the marks of all slots are 0: they were filled so
+pub cleared : (before t : List ℕ) → 4096 ≤ length before → FilledFrom 0 4096 0 before t → Cleared t
+cleared before t l b = record { marks = λ g m. b .inside g (omega arith) m; long = omega (arith, b .long) }
+
+-- or the list was made so
+pub cleared-new : (t : List ℕ) → t ≡ replicate 4096 0 → Cleared t
+cleared-new t e = record { marks = λ g m. rw e (getD-replicate 4096 g 0 0 m); long = omega (arith, ap length e ∙ length-replicate {A = ℕ} 4096 0) }
 
 -- the slots below n have their marks, and there is none behind them
 pub record MarkedTo (racks : List Rack) (n : ℕ) (t : List ℕ) : Type 0 where
@@ -51,8 +53,8 @@ pub record MarkedTo (racks : List Rack) (n : ℕ) (t : List ℕ) : Type 0 where
   pub behind : (g : ℕ) → n ≤ g → g < 4096 → getD t g 0 ≡ 0
 
 module _ (racks : List Rack) where
-  pub marked-none : (t : List ℕ) → t ≡ replicate 4096 0 → MarkedTo racks 0 t
-  marked-none t e = record { marks = λ g l. absurd (omega arith); behind = λ g l h. rw e (getD-replicate 4096 g 0 0 h) }
+  pub marked-none : (t : List ℕ) → Cleared t → MarkedTo racks 0 t
+  marked-none t c = record { marks = λ g l. absurd (omega arith); behind = λ g l h. c .marks g h }
 
   -- one rack more
   module _ (small : slots racks ≤ 4096) (p low high : ℕ) (l : p < length racks) (el : low ≡ base racks p) (eh : high ≡ base racks (suc p)) where
@@ -81,7 +83,7 @@ module _ (racks : List Rack) where
             b .above g (omega (arith, spare-end racks p)) a ∙ f .behind g a h
 
   -- all racks are done
-  pub marked-all : (t : List ℕ) (n : ℕ) → n ≡ slots racks → length t ≡ 4096 → MarkedTo racks n t → UsersMarked racks t
+  pub marked-all : (t : List ℕ) (n : ℕ) → n ≡ slots racks → 4096 ≤ length t → MarkedTo racks n t → UsersMarked racks t
   marked-all t n e long k =
       record {
         marks = λ g l. elim (decLt g n) [ yes h ↦ k .marks g h | no h ↦ k .behind g (omega arith) l ∙ sym (ap bit (user-none racks g (omega arith))) ];

@@ -6,9 +6,9 @@ use Prim.Native.Nat.{ℕ, _+_, _≤_, _<_}
 use native.Mathlib.Omega.{arith}
 use native.Mathlib.Decide.{ℕ-discrete, decLt}
 use lib.Dec.{eqb}
-use lib.ListN.{length, getD, set, length-set, List·getD-eq-default}
+use lib.ListN.{length, getD, set, length-set}
 use lib.Seq.{getD-set-same, getD-set-other}
-use borrow.Author.Tests.{eq-eqb, ne-eqb}
+use borrow.Author.Tests.{eq-eqb, ne-eqb, lt-ltb, le-ltb}
 use borrow.Author.Count.{below-more}
 use Rattle.counting.specs.Tests.{_and_, _or_, pick}
 use Rattle.counting.specs.Count.{some}
@@ -25,44 +25,63 @@ use Rattle.racks.specs.Table.{dest, free, names}
 use Rattle.racks.specs.Numbers.{badEntry, badEntries, repeats, badTwice}
 use Rattle.racks.proofs.Geometry.{user-lt}
 use Rattle.racks.proofs.Legal.{entry-cases}
-use Rattle.entries.specs.parts.Marks.{UsersMarked, markOf, numberOf, entryNumber, named, Entered, entriesNumber, entriesRefusal, worse, firstTwice, twiceTo}
+use Rattle.entries.specs.parts.Marks.{UsersMarked, markOf, numberOf, markIn, entryNumber, named, Entered, entriesNumber, entriesRefusal, worse, firstTwice, twiceTo}
 
 -- one entry, by the tests that the code makes
-module _ (marks : List ℕ) (x : ℕ) (long : length marks ≡ 4096) where
-  pub mark-beyond : 4096 ≤ x → getD marks x 0 ≡ 0
-  mark-beyond h = List·getD-eq-default marks 0 (omega arith)
+module _ (marks : List ℕ) (x : ℕ) where
+  mark-slot : x < 4096 → markIn marks x ≡ getD marks x 0
+  unfolding markIn
+  mark-slot l = rw (lt-ltb x 4096 l)
 
-  unnamed : (getD marks x 0 ≡ 1 → ⊥) → marks ≡ named marks x
+  mark-beyond : 4096 ≤ x → markIn marks x ≡ 0
+  unfolding markIn
+  mark-beyond l = rw (le-ltb x 4096 l)
+
+  unnamed : (markIn marks x ≡ 1 → ⊥) → marks ≡ named marks x
   unfolding named
-  unnamed f = rw (ne-eqb (getD marks x 0) 1 f)
+  unnamed f = rw (ne-eqb (markIn marks x) 1 f)
 
   pub entered-free : x ≡ FREE → Entered marks x 0 marks
   unfolding entryNumber
   entered-free e = record { number-is = rw (eq-eqb x FREE e); marks-are = unnamed (λ q. omega (arith, mark-beyond (omega arith))) }
 
   module _ (f : x ≡ FREE → ⊥) where
-    by-mark : entryNumber marks x ≡ numberOf (getD marks x 0)
+    by-mark : entryNumber marks x ≡ numberOf (markIn marks x)
     unfolding entryNumber
     by-mark = rw (ne-eqb x FREE f)
 
-    pub entered-5 : getD marks x 0 ≡ 0 → Entered marks x 5 marks
+    entered-none : markIn marks x ≡ 0 → Entered marks x 5 marks
     unfolding numberOf
-    entered-5 e = record { number-is = sym (by-mark ∙ rw e); marks-are = unnamed (λ q. omega arith) }
+    entered-none e = record { number-is = sym (by-mark ∙ rw e); marks-are = unnamed (λ q. omega arith) }
 
-    pub entered-6 : (getD marks x 0 ≡ 0 → ⊥) → (getD marks x 0 ≡ 1 → ⊥) → Entered marks x 6 marks
-    unfolding numberOf
-    entered-6 z o = record { number-is = sym (by-mark ∙ rw (ne-eqb (getD marks x 0) 0 z, ne-eqb (getD marks x 0) 1 o)); marks-are = unnamed o }
+    pub entered-beyond : 4096 ≤ x → Entered marks x 5 marks
+    entered-beyond l = entered-none (mark-beyond l)
 
-    pub entered-0 : getD marks x 0 ≡ 1 → Entered marks x 0 (set marks x 2)
-    unfolding numberOf named
-    entered-0 e = record { number-is = sym (by-mark ∙ rw e); marks-are = rw e }
+    module _ (l : x < 4096) where
+      pub entered-5 : getD marks x 0 ≡ 0 → Entered marks x 5 marks
+      entered-5 e = entered-none (mark-slot l ∙ e)
+
+      pub entered-6 : (getD marks x 0 ≡ 0 → ⊥) → (getD marks x 0 ≡ 1 → ⊥) → Entered marks x 6 marks
+      unfolding numberOf
+      entered-6 z o =
+          let m = mark-slot l in
+          record { number-is = sym (by-mark ∙ rw (ne-eqb (markIn marks x) 0 (λ q. z (sym m ∙ q)), ne-eqb (markIn marks x) 1 (λ q. o (sym m ∙ q)))); marks-are = unnamed (λ q. o (sym m ∙ q)) }
+
+      pub entered-0 : getD marks x 0 ≡ 1 → Entered marks x 0 (set marks x 2)
+      unfolding numberOf named
+      entered-0 e = let m : markIn marks x ≡ 1 = mark-slot l ∙ e in record { number-is = sym (by-mark ∙ rw m); marks-are = rw m }
+
+-- an entry keeps the length
+length-named : (marks : List ℕ) (x : ℕ) → length (named marks x) ≡ length marks
+unfolding named
+length-named marks x = by-test (eqb (markIn marks x) 1) (λ t. rw t (length-set marks x 2)) (λ t. rw t)
 
 -- the first g entries were passed: none is bad, the user slots that they name are marked, and `twice` is 6 and the lowest that repeats an earlier one
 pub record Passed (racks : List Rack) (places marks : List ℕ) (twice : Refusal) (g : ℕ) : Type 0 where
   pub clean : (k : ℕ) → k < g → badEntry racks places k ≡ false
   pub marks-are : (v : ℕ) → v < 4096 → getD marks v 0 ≡ markOf racks places g v
   pub twice-is : twice ≡ twiceTo places g
-  pub long : length marks ≡ 4096
+  pub long : 4096 ≤ length marks
 
 pub passed-none : (racks : List Rack) (places marks : List ℕ) → UsersMarked racks marks → Passed racks places marks (placeless 0) 0
 unfolding markOf twiceTo
@@ -134,16 +153,22 @@ module _ (racks : List Rack) (small : slots racks ≤ 4096) (places : List ℕ) 
 
   module _ (marks : List ℕ) (twice : Refusal) (p : Passed racks places marks twice g) where
     -- the mark of the slot that the entry names
-    mark-none : isUser racks (dest places g) ≡ false → getD marks (dest places g) 0 ≡ 0
+    mark-none : isUser racks (dest places g) ≡ false → markIn marks (dest places g) ≡ 0
     unfolding markOf
     mark-none u = elim (decLt (dest places g) 4096) [
-      | yes l ↦ p .marks-are (dest places g) l ∙ rw u
-      | no l ↦ mark-beyond marks (dest places g) (p .long) (omega arith)
+      | yes l ↦ mark-slot marks (dest places g) l ∙ p .marks-are (dest places g) l ∙ rw u
+      | no l ↦ mark-beyond marks (dest places g) (omega arith)
     ]
 
-    mark-user : isUser racks (dest places g) ≡ true → (b : Bool) → some g (names places (dest places g)) ≡ b → getD marks (dest places g) 0 ≡ pick b 2 1
+    user-small : isUser racks (dest places g) ≡ true → dest places g < 4096
+    user-small u = omega (arith, user-lt racks (dest places g) u)
+
+    read-user : isUser racks (dest places g) ≡ true → (b : Bool) → some g (names places (dest places g)) ≡ b → getD marks (dest places g) 0 ≡ pick b 2 1
     unfolding markOf
-    mark-user u b e = p .marks-are (dest places g) (omega (arith, user-lt racks (dest places g) u)) ∙ rw (u, e)
+    read-user u b e = p .marks-are (dest places g) (user-small u) ∙ rw (u, e)
+
+    mark-user : isUser racks (dest places g) ≡ true → (b : Bool) → some g (names places (dest places g)) ≡ b → markIn marks (dest places g) ≡ pick b 2 1
+    mark-user u b e = mark-slot marks (dest places g) (user-small u) ∙ read-user u b e
 
     -- the number of the entry, by what it is
     module _ (n : ℕ) (after : List ℕ) (e : Entered marks (dest places g) n after) where
@@ -151,7 +176,7 @@ module _ (racks : List Rack) (small : slots racks ≤ 4096) (places : List ℕ) 
       unfolding entryNumber
       n-free h = e .number-is ∙ rw (eq-eqb (dest places g) FREE h)
 
-      n-card : (dest places g ≡ FREE → ⊥) → (m : ℕ) → getD marks (dest places g) 0 ≡ m → n ≡ numberOf m
+      n-card : (dest places g ≡ FREE → ⊥) → (m : ℕ) → markIn marks (dest places g) ≡ m → n ≡ numberOf m
       unfolding entryNumber
       n-card f m h = e .number-is ∙ rw (ne-eqb (dest places g) FREE f) (ap numberOf h)
 
@@ -183,31 +208,31 @@ module _ (racks : List Rack) (small : slots racks ≤ 4096) (places : List ℕ) 
           or-off-user b = by-test (isUser racks (dest places g)) (λ u. absurd (no-way (or-r (eqb (dest places g) FREE) u) b)) (λ u. u)
 
       module _ (f : n ≡ 5 → ⊥) where
-        kept : (getD marks (dest places g) 0 ≡ 1 → ⊥) → after ≡ marks
+        kept : (markIn marks (dest places g) ≡ 1 → ⊥) → after ≡ marks
         unfolding named
-        kept h = e .marks-are ∙ rw (ne-eqb (getD marks (dest places g) 0) 1 h)
+        kept h = e .marks-are ∙ rw (ne-eqb (markIn marks (dest places g)) 1 h)
 
-        renamed : getD marks (dest places g) 0 ≡ 1 → after ≡ set marks (dest places g) 2
+        renamed : markIn marks (dest places g) ≡ 1 → after ≡ set marks (dest places g) 2
         unfolding named
         renamed h = e .marks-are ∙ rw h
 
         -- the marks after the entry
         after-free : dest places g ≡ FREE → (v : ℕ) → v < 4096 → getD after v 0 ≡ markOf racks places (g + 1) v
         after-free h v l =
-            rw (kept (λ q. omega (arith, mark-beyond marks (dest places g) (p .long) (omega arith))))
+            rw (kept (λ q. omega (arith, mark-beyond marks (dest places g) (omega arith))))
             (p .marks-are v l ∙ sym (other v (λ q. omega arith)))
 
         after-again : isUser racks (dest places g) ≡ true → some g (names places (dest places g)) ≡ true → (v : ℕ) → v < 4096 → getD after v 0 ≡ markOf racks places (g + 1) v
         after-again u b v l = rw (kept (λ q. omega (arith, mark-user u true b)))
             (elim (ℕ-discrete (dest places g) v) [
-              | yes q ↦ rw (← q) (mark-user u true b ∙ sym (same u))
+              | yes q ↦ rw (← q) (read-user u true b ∙ sym (same u))
               | no q ↦ p .marks-are v l ∙ sym (other v q)
             ])
 
         after-new : isUser racks (dest places g) ≡ true → some g (names places (dest places g)) ≡ false → (v : ℕ) → v < 4096 → getD after v 0 ≡ markOf racks places (g + 1) v
         after-new u b v l = rw (renamed (mark-user u false b))
             (elim (ℕ-discrete (dest places g) v) [
-              | yes q ↦ rw (← q) (getD-set-same marks (dest places g) 2 0 (omega (arith, p .long, user-lt racks (dest places g) u)) ∙ sym (same u))
+              | yes q ↦ rw (← q) (getD-set-same marks (dest places g) 2 0 (omega (arith, p .long, user-small u)) ∙ sym (same u))
               | no q ↦ getD-set-other marks (dest places g) v 2 0 (λ r. q (sym r)) ∙ p .marks-are v l ∙ sym (other v q)
             ])
 
@@ -222,10 +247,8 @@ module _ (racks : List Rack) (small : slots racks ≤ 4096) (places : List ℕ) 
             (λ b. twice-more twice n true (repeats-user h ∙ b) (n-user h u true b) (p .twice-is))
             (λ b. twice-more twice n false (repeats-user h ∙ b) (n-user h u false b) (p .twice-is)))
 
-        long-more : length after ≡ 4096
-        unfolding named
-        long-more = ap length (e .marks-are) ∙ by-test (eqb (getD marks (dest places g) 0) 1)
-            (λ t. rw t (length-set marks (dest places g) 2 ∙ p .long)) (λ t. rw t (p .long))
+        long-more : 4096 ≤ length after
+        long-more = omega (arith, p .long, ap length (e .marks-are) ∙ length-named marks (dest places g))
 
         pub passed-more : Passed racks places after (firstTwice twice n g) (g + 1)
         passed-more =

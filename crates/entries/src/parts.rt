@@ -2,11 +2,11 @@
 ghost use mathlib.Core.Path.{_≡_};
 ghost use mathlib.Core.Bool.{true};
 ghost use Prim.Native.Nat.{_≤_, _<_};
-ghost use lib.ListN.{length, replicate};
+ghost use lib.ListN.{length};
 ghost use Rattle.counting.specs.Tests.{_and_};
 ghost use Rattle.racks.specs.Limits.{SLOTS, MARKS};
 ghost use Rattle.racks.specs.Job.{racksOf, Sound};
-ghost use Rattle.entries.specs.parts.Marks.{FilledFrom, UsersMarked, Entered, entriesNumber, entriesRefusal, worse, firstTwice};
+ghost use Rattle.entries.specs.parts.Marks.{FilledFrom, Cleared, UsersMarked, Entered, entriesNumber, entriesRefusal, worse, firstTwice};
 ghost use Rattle.entries.specs.parts.Once.{markAt, MarkTaken, OnceMarked};
 use answers::Refusal;
 use racks::Job;
@@ -23,9 +23,9 @@ pub fn fill(list: &mut [u8], low: usize, high: usize, value: u8)
     }
 }
 
-// 1 for each user slot, where all marks are 0.
-pub fn mark_users(job: Job, marks: &mut [u8; Job::MAX_SLOTS])
-    requires { ⌜ Sound job × (now marks ≡ replicate SLOTS 0) ⌝ }
+// 1 for each user slot, where the marks of all slots are 0.
+pub fn mark_users(job: Job, marks: &mut [u8])
+    requires { ⌜ Sound job × Cleared (now marks) ⌝ }
     ensures { λ _. ⌜ UsersMarked (racksOf job) (now (marks .exit)) ⌝ }
 {
     let n = job.racks;
@@ -40,8 +40,8 @@ pub fn mark_users(job: Job, marks: &mut [u8; Job::MAX_SLOTS])
 }
 
 // The number of one entry: 5 where it names no user slot, 6 where that slot is named already; it is named from now on.
-pub fn entry_number(marks: &mut [u8; Job::MAX_SLOTS], x: u16) -> u8
-    requires { ⌜ length (now marks) ≡ SLOTS ⌝ }
+pub fn entry_number(marks: &mut [u8], x: u16) -> u8
+    requires { ⌜ SLOTS ≤ length (now marks) ⌝ }
     ensures { λ r. ⌜ Entered (now (marks .entry)) x r (now (marks .exit)) ⌝ }
 {
     if x == Job::FREE {
@@ -89,7 +89,7 @@ fn first_twice(was: Refusal, number: u8, g: usize) -> Refusal
 }
 
 // 5, 6 or 0 for the entries, S of them, and its place: one pass. The marks are lent with the user slots marked.
-fn entries_refusal(job: Job, places: &[u16], marks: &mut [u8; Job::MAX_SLOTS]) -> Refusal
+fn entries_refusal(job: Job, places: &[u16], marks: &mut [u8]) -> Refusal
     requires { ⌜ Sound job × (length (now places) ≡ job .slots) × UsersMarked (racksOf job) (now marks) ⌝ }
     ensures { λ r. ⌜ r ≡ entriesRefusal (racksOf job) (now (places .entry)) ⌝ }
 {
@@ -109,19 +109,10 @@ fn entries_refusal(job: Job, places: &[u16], marks: &mut [u8; Job::MAX_SLOTS]) -
     twice
 }
 
-// The refusal of the entries of a table, with the marks made.
-pub fn find_refusal(job: Job, places: &[u16]) -> Refusal
-    requires { ⌜ Sound job × (length (now places) ≡ job .slots) ⌝ }
-    ensures { λ r. ⌜ r ≡ entriesRefusal (racksOf job) (now (places .entry)) ⌝ }
-{
-    let mut marks = [0u8; Job::MAX_SLOTS];
-    mark_users(job, &mut marks);
-    entries_refusal(job, places, &mut marks)
-}
-
-// The same in marks that were used before: only a file that is refused pays for clearing them again.
-pub fn find_again(job: Job, places: &[u16], marks: &mut [u8; Job::MAX_SLOTS]) -> Refusal
-    requires { ⌜ Sound job × (length (now places) ≡ job .slots) × (length (now marks) ≡ SLOTS) ⌝ }
+// The refusal of the entries of a table, in marks that were used before: only a table that is refused pays for clearing them again. What
+// stands behind the slots' marks is left.
+pub fn find_refusal(job: Job, places: &[u16], marks: &mut [u8]) -> Refusal
+    requires { ⌜ Sound job × (length (now places) ≡ job .slots) × (SLOTS ≤ length (now marks)) ⌝ }
     ensures { λ r. ⌜ r ≡ entriesRefusal (racksOf job) (now (places .entry)) ⌝ }
 {
     fill(marks, 0, Job::MAX_SLOTS, 0);
@@ -186,7 +177,8 @@ fn both(a: bool, b: bool) -> bool
 // alternate at random; which number a refused table gets, and with which entry, is left to `find_refusal`.
 fn marked_once(job: Job, places: &[u16], marks: &mut [u8; Job::MARKS]) -> bool
     requires { ⌜ Sound job × (length (now places) ≡ job .slots) × OnceMarked (racksOf job) (now marks) ⌝ }
-    ensures { λ r. ⌜ (r ≡ true → 0 ≡ entriesNumber (racksOf job) (now (places .entry))) ⌝ }
+    ensures clear { λ r. ⌜ (r ≡ true → 0 ≡ entriesNumber (racksOf job) (now (places .entry))) ⌝ }
+    ensures long { λ _. ⌜ length (now (marks .exit)) ≡ MARKS ⌝ }
 {
     let mut all = true;
     let mut g: usize = 0;
@@ -199,12 +191,13 @@ fn marked_once(job: Job, places: &[u16], marks: &mut [u8; Job::MARKS]) -> bool
     all
 }
 
-// Whether no entry of a table is refused, with the marks made: all are open but those of the spares.
-pub fn entries_clear(job: Job, places: &[u16]) -> bool
-    requires { ⌜ Sound job × (length (now places) ≡ job .slots) ⌝ }
-    ensures { λ r. ⌜ (r ≡ true → 0 ≡ entriesNumber (racksOf job) (now (places .entry))) ⌝ }
+// Whether no entry of a table is refused. The marks are lent open, all 1, and those of the spares are shut: an entry that finds its mark
+// shut, whoever shut it, is left to `find_refusal`.
+pub fn entries_clear(job: Job, places: &[u16], marks: &mut [u8; Job::MARKS]) -> bool
+    requires { ⌜ Sound job × (length (now places) ≡ job .slots) × (length (now marks) ≡ MARKS) ⌝ }
+    ensures clear { λ r. ⌜ (r ≡ true → 0 ≡ entriesNumber (racksOf job) (now (places .entry))) ⌝ }
+    ensures long { λ _. ⌜ length (now (marks .exit)) ≡ MARKS ⌝ }
 {
-    let mut marks = [1u8; Job::MARKS];
-    shut_spares(job, &mut marks);
-    marked_once(job, places, &mut marks)
+    shut_spares(job, marks);
+    marked_once(job, places, marks)
 }

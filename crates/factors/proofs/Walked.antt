@@ -12,6 +12,7 @@ use borrow.Author.Tests.{eq-eqb, ne-eqb}
 use Rattle.counting.specs.Tests.{_or_, pick}
 use Rattle.counting.specs.Lists.{among, last}
 use Rattle.counting.proofs.Members.{among-append}
+use Rattle.counting.proofs.Lists.{length-none}
 use Rattle.counting.proofs.Tests.{by-test}
 use Rattle.racks.specs.Limits.{FREE, HAND}
 use Rattle.racks.specs.Table.{dest}
@@ -221,17 +222,13 @@ module _ {places : List ℕ} (ok : Chained places) (mark k : ℕ) (low : k < len
     alone : dest places (last k (onward places k)) ≡ k → n ≡ 0 → Walked places mark k seen h (m + n) FREE s₂
     unfolding back last
     alone e z =
-        let c : onward places k ≡ [] = nothing (onward places k) (sym (on .left-is) ∙ z) in
+        let c : onward places k ≡ [] = length-none (onward places k) (sym (on .left-is) ∙ z) in
         let t : dest places k ≡ k = rw c at e in
         let b : back places k ≡ [] = after-stop (source places) k (length places) k (inr (cycle-source ok k low e ∙ ap (last k) c)) in
         let i : h ≡ k = bk .head-is ∙ ap (last k) b in
         let w : m ≡ 0 = bk .left-is ∙ ap length b in
         from-head (i ∙ sym (on-cycle ok k low e)) (omega (arith, ap (λ (x : ℕ). length (onward places x)) i, ap length c)) (no-hand (source places h) (m + n) (λ q. absurd (q (omega arith))))
         (λ v. ap (λ (l : List ℕ). among v ((k ∷ onward places k) ++ l)) b ∙ ap (among v) (append-nil (k ∷ onward places k)) ∙ ap (λ (x : ℕ). among v (x ∷ onward places x)) (sym i))
-      where
-        nothing : (l : List ℕ) → length l ≡ 0 → l ≡ []
-        nothing [] e = refl
-        nothing (x ∷ l) e = absurd (omega arith)
 
     -- so it begins where the way back ends
     pub walked-back : Walked places mark k seen h (m + n) FREE s₂

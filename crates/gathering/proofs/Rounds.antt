@@ -44,7 +44,7 @@ use Rattle.budgets.specs.parts.Turns.{Turn}
 use Rattle.budgets.proofs.Turns.{tally-is, going-fixed, turn-first, turn-runnable, turn-more, turn-next, held-is, moves-are}
 use Rattle.runs.specs.Run.{gathered}
 use Rattle.runs.proofs.Gathering.{all-counted, all-few}
-use Rattle.owed.specs.Awaits.{awaits}
+use Rattle.moves.specs.Awaits.{awaits}
 use Rattle.owed.specs.parts.Kept.{Awaited, owing}
 use Rattle.runs.specs.parts.Ran.{phaseCounts}
 use Rattle.gathering.specs.parts.Gathered.{Logged, Round, Closable, RoundClosed, Set, PhasesMade}

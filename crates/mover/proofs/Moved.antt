@@ -17,7 +17,7 @@ use Rattle.tables.proofs.Refusals.{placeless-by, kept-by}
 use Rattle.carrying.proofs.Outcomes.{outcome-checks}
 use Rattle.moves.specs.Moves.{Held, carried, endChecks, moveChecks, moved}
 use Rattle.mover.specs.parts.Moving.{moveNumber, movedBy, MoveChecked}
-use Rattle.mover.proofs.Ends.{ends-allowed, ends-placeless}
+use Rattle.moves.proofs.Ends.{ends-allowed, ends-placeless}
 
 -- a job made from capacities gives their move
 pub moved-by : (caps : List ℕ) (job : Job) → job ≡ jobOf (ofCaps caps) → (b : ℕ) (h : Held) (m : Pair) → movedBy job b h m ≡ moved (ofCaps caps) b h m

@@ -22,6 +22,7 @@ use Rattle.plans.specs.Allowed.{Allowed, Apart}
 use Rattle.moves.specs.Turns.{InTurn, Moving}
 use Rattle.moves.specs.Turns.InTurn.{stop, next}
 use Rattle.moves.specs.Turns.Moving.{still, move}
+use Rattle.moves.specs.Awaits.{awaits}
 use Rattle.moves.specs.Moves.{movedPlaces, movedCards, carriedPlaces, carriedCards, between, Held, carried}
 use Rattle.moves.proofs.Blocks.{length-moved-cards}
 use Rattle.moves.proofs.Moved.{legal-moved, stands-moved, allowed-free, aways-moved, owes-moved, owes-other, allowed-kept}
@@ -112,3 +113,9 @@ module _ {racks : List Rack} where
   unfolding carriedPlaces matching
   owes-carried l stop i p = omega arith
   owes-carried l (next a t) i p = omega (arith, owes-step l a i p, owes-carried (legal-moved l (allowed-free a)) t i p)
+
+  -- what rack p awaits from rack i is what i owes p in the table after the moves made
+  pub awaits-owes : {start : List ℕ} {made : List Pair} → Legal racks start → InTurn racks start made → (i p : ℕ)
+      → awaits racks start made i p ≡ owes racks (carriedPlaces made start) i p
+  unfolding awaits
+  awaits-owes l t i p = omega (arith, owes-carried l t i p)

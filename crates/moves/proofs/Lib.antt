@@ -1,4 +1,5 @@
 pub mod Pairs
+pub mod Ends
 pub mod Moved
 pub mod Blocks
 pub mod Carry

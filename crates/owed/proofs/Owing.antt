@@ -20,9 +20,8 @@ use Rattle.owed.specs.parts.Owed.{cell, Owed}
 use Rattle.moves.specs.Moves.{movedPlaces, carriedPlaces, between}
 use Rattle.moves.proofs.Moved.{legal-moved, allowed-free}
 use Rattle.moves.specs.Turns.{InTurn}
-use Rattle.moves.proofs.Carry.{owes-step, owes-carried}
+use Rattle.moves.proofs.Carry.{owes-step, awaits-owes}
 use Rattle.moves.specs.Turns.InTurn.{stop, next}
-use Rattle.owed.specs.Awaits.{awaits}
 use Rattle.owed.specs.parts.Kept.{cellOf, pay, paid, Payable, Awaited, owing}
 use Rattle.owed.specs.parts.Kept.Payable.{none, more}
 
@@ -93,18 +92,13 @@ module _ {racks : List Rack} (racking : List ℕ) (filled : Filled racks racking
   owed-payable l (next a t) o = payable-first l a o (owed-payable (legal-moved l (allowed-free a)) t (owed-pay l a o))
 
 module _ {racks : List Rack} {start : List ℕ} {made : List Pair} (l : Legal racks start) (t : InTurn racks start made) where
-  -- what rack p awaits from rack i is what i owes p in the table after the moves made
-  pub awaits-owes : (i p : ℕ) → awaits racks start made i p ≡ owes racks (carriedPlaces made start) i p
-  unfolding awaits
-  awaits-owes i p = omega (arith, owes-carried l t i p)
-
-  -- so counts of what racks owe then are counts of what they await
+  -- counts of what racks owe after the moves made are counts of what they await then
   pub awaited-is : {counts : List ℕ} → Owed racks (carriedPlaces made start) counts → Awaited racks start made counts
-  awaited-is o = record { counts = λ i p li lp. o .counts i p li lp ∙ sym (awaits-owes i p); long = o .long }
+  awaited-is o = record { counts = λ i p li lp. o .counts i p li lp ∙ sym (awaits-owes l t i p); long = o .long }
 
   -- and counts of what they await are counts of what they owe then
   pub awaited-owed : {counts : List ℕ} → Awaited racks start made counts → Owed racks (carriedPlaces made start) counts
-  awaited-owed a = record { counts = λ i p li lp. a .counts i p li lp ∙ awaits-owes i p; long = a .long }
+  awaited-owed a = record { counts = λ i p li lp. a .counts i p li lp ∙ awaits-owes l t i p; long = a .long }
 
 -- a cell with no count, and one with a count
 pub owing-none : (counts : List ℕ) (k : ℕ) → getD counts k 0 ≡ 0 → owing counts k ≡ false

@@ -13,8 +13,8 @@ use Rattle.counting.proofs.Pairs.{pairUp-front, pairUp-take}
 use Rattle.racks.specs.Racks.{Rack}
 use Rattle.plans.specs.Plan.{planFor, plan, openSlots}
 use Rattle.plans.proofs.Grants.{plan-for-is}
-use Rattle.queues.specs.parts.Queues.{Rows, rowsOf, part}
-use Rattle.pairing.specs.parts.Phase.{PhasePlanned, PairsWritten, served, sent, pairsFor, queuedPlan}
+use Rattle.queues.specs.parts.Queues.{Rows, part}
+use Rattle.pairing.specs.parts.Phase.{served, sent, pairsFor, queuedPlan}
 use Rattle.queues.specs.parts.Ready.{Ready}
 use Rattle.queues.proofs.Stretch.{part-take}
 use Rattle.pairing.proofs.Pairing.{pairs-none, sent-le}
@@ -65,8 +65,3 @@ module _ (racks : List Rack) (places : List ℕ) (rows : Rows) (r : Ready racks 
       all : queuedPlan (length racks) rows ≡ plan racks places
       all = ap join (tabulate-is (length racks) (planFor racks places) (tabulate (length racks) (pairsFor rows)) [] (length-tabulate _ (pairsFor rows))
           (λ k l. getD-tabulate _ (pairsFor rows) k [] l ∙ ready-for k l))
-
--- a phase planned from rows that fit the table is the plan of the phase
-pub ready-written : {racks : List Rack} {places ends line bits log : List ℕ} {at : ℕ} {line′ bits′ log′ : List ℕ} {count : ℕ} → Ready racks places (rowsOf ends line bits)
-    → PhasePlanned ends line bits log at line′ bits′ log′ count → PairsWritten (plan racks places) log at log′ count
-ready-written {racks} {places} {ends} {line} {bits} r p = rw (ready-plan racks places (rowsOf ends line bits) r) at (p .written)

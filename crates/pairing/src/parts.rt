@@ -60,7 +60,7 @@ fn visit(
     let head = line[line::HEADS + p] as usize;
     let waits = line[line::TAILS + p] as usize - head;
     let room = line[line::ROOMS + p] as usize;
-    let made = queues::parts::smaller(room, waits);
+    let made = racks::parts::smaller(room, waits);
     let end = head + made;
     let low = racks::parts::first_slot(ends, p) as usize;
     plan_rack(line, head, end, bits, low, log, at);

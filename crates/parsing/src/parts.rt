@@ -144,10 +144,10 @@ fn stopped_at(number: u8, g: usize) -> TableRead
 
 // The refusal of the table at the front of a list, in marks that were used before.
 fn search_front(job: Job, places: &[u16], marks: &mut [u8; Job::MAX_SLOTS]) -> Refusal
-    requires { ⌜ Sound job × (job .slots ≤ length (now places)) × (length (now marks) ≡ SLOTS) ⌝ }
+    requires { ⌜ Sound job × (job .slots ≤ length (now places)) × (SLOTS ≤ length (now marks)) ⌝ }
     ensures { λ r. ⌜ r ≡ entriesRefusal (racksOf job) (take (job .slots) (now (places .entry))) ⌝ }
 {
-    entries::parts::find_again(job, &places[..job.slots], marks)
+    entries::parts::find_refusal(job, &places[..job.slots], marks)
 }
 
 // The S entries, to the front of a list of the reader's own: 14, 15, 20 or 5 at once, 6 after the last. Which entry repeats an earlier one is

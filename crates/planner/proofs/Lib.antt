@@ -1,2 +1,3 @@
-pub mod PairCount
+pub mod Targets
+pub mod Pairs
 pub mod Planned

@@ -1,2 +1,2 @@
-pub mod Grants
+pub mod Targets
 pub mod Planned

@@ -11,7 +11,7 @@ use lib.Seq.{take-nil}
 use borrow.Author.Tests.{eqb-true}
 use Rattle.counting.specs.Count.{sum, count, select}
 use Rattle.counting.specs.Lists.{tabulate, join, each, pairUp}
-use Rattle.counting.proofs.Tests.{off, not-off-is}
+use Rattle.counting.proofs.Tests.{not-off-is}
 use Rattle.counting.specs.Every.{All, Pairwise}
 use Rattle.counting.proofs.Every.{all-take, pairwise-take, pairwise-map}
 use Rattle.counting.proofs.Select.{Hit, select-none, length-select, all-select, select-ascends, select-split, select-short, sum-cong}
@@ -20,7 +20,7 @@ use Rattle.counting.proofs.Pairs.{length-pairUp, pairUp-take}
 use Rattle.racks.specs.Racks.{Rack, base, slots, rackOf}
 use Rattle.racks.specs.Table.{awayTo, bound, owes, freeOn}
 use Rattle.racks.proofs.Geometry.{base-zero, base-mono, end-le, slots-is, rack-is, rack-in}
-use Rattle.racks.proofs.Away.{away-off, to-away, to-rack, bound-on, bound-off}
+use Rattle.racks.proofs.Away.{to-own, bound-on, bound-off}
 use Rattle.plans.specs.Plan.{other, sources, lowest, granted, openSlots, room, arrivals, planFor}
 
 -- the cards in rack i bound for rack p, by slot
@@ -51,7 +51,7 @@ module _ (racks : List Rack) (places : List ℕ) (p : ℕ) where
   own-none : cardsFor racks places p p ≡ []
   unfolding cardsFor
   own-none = select-none (slots racks) (bound racks places p p) (λ k l. elim (ℕ-discrete (rackOf racks k) p) [
-    | yes e ↦ bound-on racks places p k p e ∙ off (λ a. away-off racks places k (to-away racks places p k a) (e ∙ sym (to-rack racks places p k a)))
+    | yes e ↦ bound-on racks places p k p e ∙ to-own racks places p k e
     | no d ↦ bound-off racks places p k p d
   ])
 

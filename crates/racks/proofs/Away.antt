@@ -1,11 +1,11 @@
 -- What the tests of a slot say: away, away to a rack, bound from rack to rack, free on a rack. Assumes nothing.
-use mathlib.Core.Path.{_≡_}
+use mathlib.Core.Path.{_≡_, sym, _∙_}
 use mathlib.Core.Bool.{true, false}
 use mathlib.Core.Logic.{_≢_}
 use mathlib.Core.List.{List}
 use Prim.Native.Nat.{ℕ, _≤_}
 use borrow.Author.Tests.{eqb-true, eqb-false, eq-eqb, ne-eqb}
-use Rattle.counting.proofs.Tests.{both, and-l, and-r, and-true, and-off-r, not-on, not-off}
+use Rattle.counting.proofs.Tests.{off, both, and-l, and-r, and-true, and-off-r, not-on, not-off}
 use Rattle.counting.proofs.Count.{count-le}
 use Rattle.racks.specs.Racks.{Rack, slots, rackOf}
 use Rattle.racks.specs.Table.{free, rackTo, onRack, away, aways, awayTo, bound, freeOn}
@@ -41,6 +41,10 @@ module _ (racks : List Rack) (places : List ℕ) where
     pub to-rack : awayTo racks places p g ≡ true → rackTo racks places g ≡ p
     unfolding awayTo
     to-rack a = eqb-true _ _ (and-r _ a)
+
+    -- no slot of p has a card away to p
+    pub to-own : rackOf racks g ≡ p → awayTo racks places p g ≡ false
+    to-own e = off (λ a. away-off g (to-away a) (e ∙ sym (to-rack a)))
 
     -- a card that is away and must end on p is away to p
     pub to-is : away racks places g ≡ true → rackTo racks places g ≡ p → awayTo racks places p g ≡ true

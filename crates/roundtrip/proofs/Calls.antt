@@ -18,7 +18,8 @@ use Rattle.answers.specs.declared.SizeAnswer.{SizeAnswer}
 use Rattle.racks.specs.Racks.{ofCaps, slots}
 use Rattle.racks.specs.Numbers.{cardChecks, tooShort, refusalIn}
 use Rattle.racks.proofs.Caps.{length-caps}
-use Rattle.tables.proofs.Tables.{cards-marked, cards-pass}
+use Rattle.racks.proofs.Marked.{cards-marked}
+use Rattle.tables.proofs.Tables.{cards-pass}
 use Rattle.parsing.specs.File.{Read, readM, readEntries, fileRacks, fileBytes, filePlaces, fileCards, fileChecks, entryPlace, refusalAt, fileRefusal, readChecks, read}
 use Rattle.parsing.proofs.Files.{sure-past, file-sure}
 use Rattle.parsing.proofs.Legal.{file-legal}

@@ -18,7 +18,8 @@ use Rattle.racks.specs.Racks.{Rack, ofCaps, slots}
 use Rattle.racks.specs.Numbers.{badCount, badBytes, badSize, badPlaces, badCards, badEntry, badEntries, badTwice, cardChecks}
 use Rattle.racks.proofs.Table.{read-dest}
 use Rattle.racks.proofs.Caps.{length-caps, checks-0, slots-caps, slots-small}
-use Rattle.tables.proofs.Tables.{cards-marked, cards-pass}
+use Rattle.racks.proofs.Marked.{cards-marked}
+use Rattle.tables.proofs.Tables.{cards-pass}
 use Rattle.numerals.specs.Numeral.{Numerals, numerals}
 use Rattle.numerals.proofs.Numerals.{reading}
 use Rattle.parsing.specs.File.{wrongN, wrongB, wrongM, wrongEntry, entryOf, readN, readB, readM, readEntries, fileRacks, fileBytes, filePlaces, fileCards, fileChecks}

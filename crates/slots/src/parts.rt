@@ -4,7 +4,6 @@ ghost use Prim.Native.Nat.{_<_};
 ghost use lib.ListN.{length};
 ghost use Rattle.racks.specs.Racks.{isUser};
 ghost use Rattle.racks.specs.Job.{racksOf, Sound, Fit};
-ghost use Rattle.tables.specs.parts.Tables.{Filled, Open};
 ghost use Rattle.slots.specs.Slots.{refusedSlot, kindOf, stateOf};
 ghost use Rattle.slots.specs.parts.Asked.{askedBy};
 use crate::Kind;
@@ -30,32 +29,32 @@ pub fn refused(refusal: Refusal) -> SlotAnswer
 }
 
 // Whether g is a user slot.
-pub fn is_user(job: Job, racking: &[u8; Job::MAX_SLOTS], g: usize) -> bool
-    requires { ⌜ Sound job × Filled (racksOf job) (now racking) ⌝ }
+pub fn is_user(job: Job, g: usize) -> bool
+    requires { ⌜ Sound job ⌝ }
     ensures { λ r. ⌜ r ≡ isUser (racksOf job) g ⌝ }
 {
     if job.slots <= g {
         return false;
     }
-    let p = racking[g] as usize;
+    let p = tables::parts::rack_of(job, g);
     let spare = job.spares[p] as usize;
     g < spare
 }
 
 // User slot or spare.
-pub fn kind_of(job: Job, racking: &[u8; Job::MAX_SLOTS], g: usize) -> Kind
-    requires { ⌜ Sound job × Filled (racksOf job) (now racking) ⌝ }
+pub fn kind_of(job: Job, g: usize) -> Kind
+    requires { ⌜ Sound job ⌝ }
     ensures { λ r. ⌜ r ≡ kindOf (racksOf job) g ⌝ }
 {
-    if is_user(job, racking, g) {
+    if is_user(job, g) {
         return Kind::User;
     }
     Kind::Spare
 }
 
-// What stands in slot g of a legal table.
-pub fn state_of(job: Job, racking: &[u8; Job::MAX_SLOTS], places: &[u16], g: usize) -> State
-    requires { ⌜ Open job (now places) (now racking) × (g < length (now places)) ⌝ }
+// What stands in slot g of a table. Two racks at most are asked for: counting to them costs less than a racking.
+pub fn state_of(job: Job, places: &[u16], g: usize) -> State
+    requires { ⌜ Sound job × (g < length (now places)) ⌝ }
     ensures { λ r. ⌜ r ≡ stateOf (racksOf job) (now (places .entry)) g ⌝ }
 {
     let x = places[g];
@@ -66,11 +65,11 @@ pub fn state_of(job: Job, racking: &[u8; Job::MAX_SLOTS], places: &[u16], g: usi
     if to == g {
         return State::Settled;
     }
-    let there = racking[to];
-    if racking[g] == there {
+    let there = tables::parts::rack_of(job, to);
+    if tables::parts::rack_of(job, g) == there {
         return State::Unsettled;
     }
-    State::Away(there as usize)
+    State::Away(there)
 }
 
 // The slot question, by the job.
@@ -78,8 +77,7 @@ pub fn ask_job(job: Job, places: &[u16], g: usize) -> SlotAnswer
     requires { ⌜ Fit job ⌝ }
     ensures { λ r. ⌜ r ≡ askedBy job (now (places .entry)) g ⌝ }
 {
-    let mut racking = [0u8; Job::MAX_SLOTS];
-    let refusal = tables::parts::table_refusal(job, places, &mut racking);
+    let refusal = tables::parts::places_refusal(job, places);
     if refusal.number != 0 {
         return refused(refusal);
     }
@@ -87,8 +85,8 @@ pub fn ask_job(job: Job, places: &[u16], g: usize) -> SlotAnswer
         return refused(Refusal::of(7));
     }
     let answer = Answer::of(0);
-    let kind = kind_of(job, &racking, g);
-    let state = state_of(job, &racking, places, g);
+    let kind = kind_of(job, g);
+    let state = state_of(job, places, g);
     SlotAnswer {
         answer,
         slot: Slot { kind, state },

@@ -13,8 +13,7 @@ use borrow.Author.Tests.{eq-eqb, ne-eqb, eqb-true, lt-ltb, le-ltb, ltb-false}
 use Rattle.counting.specs.Tests.{_or_, pick}
 use Rattle.counting.specs.Checks.{Check, first, known, done}
 use Rattle.counting.proofs.Tests.{by-test, or-l, or-r, or-none, or-false, or-off-l, or-off-r, not-off-is}
-use Rattle.counting.proofs.Checks.{Refusing, first-here, first-later, first-off, first-join, first-known, known-here, known-past, known-none}
-use Rattle.counting.proofs.Checks.Refusing.{more, none}
+use Rattle.counting.proofs.Checks.{first-here, first-later, first-off, first-join, first-known, known-here, known-past, known-none}
 use Rattle.answers.specs.Answers.{placeless, answer, noCounts, listed}
 use Rattle.answers.specs.declared.Refusal.{Refusal}
 use Rattle.answers.specs.declared.Tally.{Tally}
@@ -24,11 +23,12 @@ use Rattle.racks.specs.Job.{racksOf, jobOf, Sound, Fit}
 use Rattle.racks.specs.declared.Job.{Job}
 use Rattle.racks.proofs.Jobs.{sound-refused, sound-slots, of-refused, of-racks}
 use Rattle.racks.proofs.Legal.{checks-racks, checks-places, checks-4, checks-entries}
+use Rattle.racks.proofs.Marked.{table-marked, cards-marked}
 use Rattle.racks.specs.parts.Legal.{Legal}
 use Rattle.racks.proofs.LegalTable.{places-legal}
 use Rattle.tables.specs.Check.{checked}
 use Rattle.entries.specs.parts.Marks.{entriesNumber, entriesRefusal}
-use Rattle.tables.specs.parts.Tables.{Racked, OpenCards, Checked, CardsChecked, refusalBy, tableNumber, cardsNumber, checkedBy}
+use Rattle.tables.specs.parts.Tables.{Racked, OpenCards, Judged, Checked, CardsChecked, refusalBy, tableNumber, cardsNumber, checkedBy}
 use Rattle.tables.proofs.Refusals.{number-by, placed-by, racks-refused-by, placeless-by, place-by}
 
 module _ (job : Job) (places : List ℕ) where
@@ -66,21 +66,28 @@ module _ (job : Job) (places : List ℕ) where
   pub number-racks : tableNumber job places ≡ 0 → job .refused ≡ 0
   number-racks z = elim (ℕ-discrete (job .refused) 0) [ yes e ↦ e | no f ↦ by-racks f ∙ z ]
 
-  -- what a table that is refused by a number without a place is checked to be, and one whose racks are known
-  pub checked-placeless : (n : ℕ) (x : Refusal) (racking : List ℕ) → x ≡ placeless n → placeless n ≡ refusalBy job places (tableNumber job places) → (n ≡ 0 → ⊥)
-      → Checked job places x racking
-  checked-placeless n x racking e is f = record { refusal-is = e ∙ is; opened = λ z. absurd (f (sym (ap (λ (r : Refusal). r .number) e) ∙ z)) }
+  -- a table's number and place say all that it is judged to be
+  pub judged : Fit job → (x : Refusal) → x ≡ refusalBy job places (tableNumber job places) → Judged job places x
+  judged fit x is = record { refusal-is = is; sound = λ z. fit (racks-pass z); legal = λ z. places-legal (racksOf job) places (sym (past (racks-pass z)) ∙ number z) }
+    where
+      number : x .number ≡ 0 → tableNumber job places ≡ 0
+      number z = sym (number-by job places is) ∙ z
 
-  pub checked-filled : (x : Refusal) (racking : List ℕ) → x ≡ refusalBy job places (tableNumber job places) → Fit job → Racked (racksOf job) racking
-      → Checked job places x racking
-  checked-filled x racking is fit racked =
-      record {
-        refusal-is = is;
-        opened = λ z.
-            let n = sym (number-by job places is) ∙ z in
-            let r = number-racks n in
-            record { sound = fit r; legal = places-legal (racksOf job) places (sym (past r) ∙ n); filled = racked .filled; long = racked .long };
-      }
+      racks-pass : x .number ≡ 0 → job .refused ≡ 0
+      racks-pass z = number-racks (number z)
+
+-- a table that is judged: where it is refused there is no more to check
+module _ {job : Job} {places : List ℕ} {x : Refusal} (j : Judged job places x) where
+  pub checked-refused : (racking : List ℕ) → (x .number ≡ 0 → ⊥) → Checked job places x racking
+  checked-refused racking f = record { refusal-is = j .refusal-is; opened = λ z. absurd (f z) }
+
+  -- where it is not, each slot's rack is known too
+  pub checked-filled : (racking : List ℕ) → Racked (racksOf job) racking → Checked job places x racking
+  checked-filled racking r = record { refusal-is = j .refusal-is; opened = λ z. record { sound = j .sound z; legal = j .legal z; filled = r .filled; long = r .long } }
+
+  -- its number
+  pub judged-number : x .number ≡ tableNumber job places
+  judged-number = number-by job places (j .refusal-is)
 
 -- the number of a table that is checked
 pub checked-number : {job : Job} {places : List ℕ} {x : Refusal} {racking : List ℕ} → Checked job places x racking → x .number ≡ tableNumber job places
@@ -182,21 +189,6 @@ bytes-many b l = or-r (eqb b 0) (lt-ltb 256 b l)
 pub bytes-good : (b : ℕ) → (b ≡ 0 → ⊥) → b ≤ 256 → badBytes b ≡ false
 unfolding badBytes
 bytes-good b f l = or-none (ne-eqb b 0 f) (le-ltb 256 b l)
-
--- no check gives 0
-given : (n : ℕ) → 0 < n → n ≡ 0 → ⊥
-given n l e = omega arith
-
-table-marked : (racks : List Rack) (places : List ℕ) → Refusing (tableChecks racks places)
-unfolding tableChecks placesChecks rackChecks
-table-marked racks places =
-    more (given 1 (omega arith)) (more (given 3 (omega arith)) (more (given 4 (omega arith)) (more (given 5 (omega arith)) (more (given 6 (omega arith)) none))))
-
-pub cards-marked : (racks : List Rack) (b : ℕ) (places cards : List ℕ) → Refusing (cardChecks racks b places cards)
-unfolding cardChecks
-cards-marked racks b places cards =
-    more (given 1 (omega arith))
-    (more (given 2 (omega arith)) (more (given 3 (omega arith)) (more (given 4 (omega arith)) (more (given 5 (omega arith)) (more (given 6 (omega arith)) none)))))
 
 -- 1, 2 and 3, by the number that the racks are refused with
 by-number : (n : ℕ) (racks : List Rack) (b : ℕ) (rest : List Check) → n ≡ first (rackChecks racks)

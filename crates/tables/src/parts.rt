@@ -1,10 +1,11 @@
-// What the layers above share: each slot's rack in a list of bytes, and the refusal of a lent table.
+// What the layers above share: one slot's rack, each slot's rack in a list of bytes, and the refusal of a lent table.
 ghost use mathlib.Core.Path.{_≡_};
 ghost use lib.ListN.{length};
 ghost use Rattle.counting.specs.Tests.{bit};
 ghost use Rattle.racks.specs.Limits.{SLOTS};
+ghost use Rattle.racks.specs.Racks.{rackOf};
 ghost use Rattle.racks.specs.Job.{racksOf, Sound, Fit};
-ghost use Rattle.tables.specs.parts.Tables.{namedSlot, Racked, Checked, CardsChecked, checkedBy};
+ghost use Rattle.tables.specs.parts.Tables.{namedSlot, Racked, Judged, Checked, CardsChecked, checkedBy};
 use answers::Answer;
 use answers::Refusal;
 use racks::Job;
@@ -30,6 +31,22 @@ pub fn one_if(test: bool) -> u16
     0
 }
 
+// The rack of slot g: as many racks end at g or before. For a few slots only; where every slot's rack is asked for, the racking has it.
+pub fn rack_of(job: Job, g: usize) -> usize
+    requires { ⌜ Sound job ⌝ }
+    ensures { λ r. ⌜ r ≡ rackOf (racksOf job) g ⌝ }
+{
+    let n = job.racks;
+    let mut rack: u16 = 0;
+    let mut p: usize = 0;
+    while p < n {
+        let end = job.ends[p] as usize;
+        rack = rack + one_if(end <= g);
+        p = p + 1;
+    }
+    rack as usize
+}
+
 // Each slot's rack. What stands behind the last slot is left.
 pub fn fill_racking(job: Job, racking: &mut [u8; Job::MAX_SLOTS])
     requires { ⌜ Sound job × (length (now racking) ≡ SLOTS) ⌝ }
@@ -46,10 +63,10 @@ pub fn fill_racking(job: Job, racking: &mut [u8; Job::MAX_SLOTS])
     }
 }
 
-// The refusal of a table; where its number is 0, each slot's rack is known.
-pub fn table_refusal(job: Job, places: &[u16], racking: &mut [u8; Job::MAX_SLOTS]) -> Refusal
-    requires { ⌜ Fit job × (length (now racking) ≡ SLOTS) ⌝ }
-    ensures { λ r. ⌜ Checked job (now (places .entry)) r (now (racking .exit)) ⌝ }
+// The refusal of a table. One array of marks serves both passes: a table that is refused is searched in those that the quick pass has used.
+pub fn places_refusal(job: Job, places: &[u16]) -> Refusal
+    requires { ⌜ Fit job ⌝ }
+    ensures { λ r. ⌜ Judged job (now (places .entry)) r ⌝ }
 {
     if job.refused != 0 {
         return Refusal::of(job.refused);
@@ -57,11 +74,24 @@ pub fn table_refusal(job: Job, places: &[u16], racking: &mut [u8; Job::MAX_SLOTS
     if places.len() != job.slots {
         return Refusal::of(4);
     }
-    fill_racking(job, racking);
-    if entries::parts::entries_clear(job, places) {
+    let mut marks = [1u8; Job::MARKS];
+    if entries::parts::entries_clear(job, places, &mut marks) {
         return Refusal::of(0);
     }
-    entries::parts::find_refusal(job, places)
+    entries::parts::find_refusal(job, places, &mut marks)
+}
+
+// The refusal of a table; where its number is 0, each slot's rack is known.
+pub fn table_refusal(job: Job, places: &[u16], racking: &mut [u8; Job::MAX_SLOTS]) -> Refusal
+    requires { ⌜ Fit job × (length (now racking) ≡ SLOTS) ⌝ }
+    ensures { λ r. ⌜ Checked job (now (places .entry)) r (now (racking .exit)) ⌝ }
+{
+    let refusal = places_refusal(job, places);
+    if refusal.number != 0 {
+        return refusal;
+    }
+    fill_racking(job, racking);
+    refusal
 }
 
 // The refusal of a table and its cards of B bytes; where its number is 0, each slot's rack is known.
@@ -98,7 +128,6 @@ pub fn check_job(job: Job, places: &[u16]) -> Answer
     requires { ⌜ Fit job ⌝ }
     ensures { λ r. ⌜ r ≡ checkedBy job (now (places .entry)) ⌝ }
 {
-    let mut racking = [0u8; Job::MAX_SLOTS];
-    let refusal = table_refusal(job, places, &mut racking);
+    let refusal = places_refusal(job, places);
     Answer::refused(refusal)
 }

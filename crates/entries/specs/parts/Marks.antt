@@ -1,9 +1,9 @@
 -- The pass over the entries, as the code makes it: a table of marks, 0 for what is no user slot, 1 for a user slot, 2 for one that an
--- entry has named. Assumes nothing: these are definitions.
+-- entry has named. What stands behind the marks of the most slots is not read. Assumes nothing: these are definitions.
 use mathlib.Core.Path.{_≡_}
 use mathlib.Core.List.{List}
 use Prim.Native.Nat.{ℕ, _≤_, _<_}
-use lib.Dec.{eqb}
+use lib.Dec.{eqb, ltb}
 use lib.ListN.{length, getD, set}
 use Rattle.counting.specs.Tests.{bit, pick}
 use Rattle.counting.specs.Count.{some, least}
@@ -22,10 +22,15 @@ pub record FilledFrom (low high value : ℕ) (before after : List ℕ) : Type 0 
   pub above : (g : ℕ) → high ≤ g → low ≤ g → getD after g 0 ≡ getD before g 0
   pub long : length after ≡ length before
 
--- the list has 1 at each user slot and 0 elsewhere
+-- the list has 0 for as many slots as there may be
+pub record Cleared (list : List ℕ) : Type 0 where
+  pub marks : (g : ℕ) → g < SLOTS → getD list g 0 ≡ 0
+  pub long : SLOTS ≤ length list
+
+-- of as many slots as there may be, the list has 1 at each user slot and 0 at the others; what stands behind them is not said
 pub record UsersMarked (racks : List Rack) (list : List ℕ) : Type 0 where
   pub marks : (g : ℕ) → g < SLOTS → getD list g 0 ≡ bit (isUser racks g)
-  pub long : length list ≡ SLOTS
+  pub long : SLOTS ≤ length list
 
 -- the mark of slot v after the first g entries
 unfoldable pub markOf : List Rack → List ℕ → ℕ → ℕ → ℕ
@@ -35,13 +40,17 @@ markOf racks places g v = pick (isUser racks v) (pick (some g (names places v)) 
 unfoldable pub numberOf : ℕ → ℕ
 numberOf mark = pick (eqb mark 0) 5 (pick (eqb mark 1) 0 6)
 
+-- the mark of the slot that entry x names: 0 where there can be no such slot
+unfoldable pub markIn : List ℕ → ℕ → ℕ
+markIn marks x = pick (ltb x SLOTS) (getD marks x 0) 0
+
 -- the number of entry x
 unfoldable pub entryNumber : List ℕ → ℕ → ℕ
-entryNumber marks x = pick (eqb x FREE) 0 (numberOf (getD marks x 0))
+entryNumber marks x = pick (eqb x FREE) 0 (numberOf (markIn marks x))
 
 -- the marks after entry x
 unfoldable pub named : List ℕ → ℕ → List ℕ
-named marks x = pick (eqb (getD marks x 0) 1) (set marks x 2) marks
+named marks x = pick (eqb (markIn marks x) 1) (set marks x 2) marks
 
 -- what one entry gives, and what it does to the marks
 pub record Entered (marks : List ℕ) (x number : ℕ) (after : List ℕ) : Type 0 where

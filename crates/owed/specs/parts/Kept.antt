@@ -9,7 +9,7 @@ use Rattle.counting.specs.Lists.{Pair}
 use Rattle.racks.specs.Limits.{CELLS, RACKS, SLOTS}
 use Rattle.racks.specs.Racks.{Rack}
 use Rattle.owed.specs.parts.Owed.{cell}
-use Rattle.owed.specs.Awaits.{awaits}
+use Rattle.moves.specs.Awaits.{awaits}
 
 -- where the move's racks stand in a table of 64 by 64 counts
 unfoldable pub cellOf : List ℕ → Pair → ℕ

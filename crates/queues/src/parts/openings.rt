@@ -31,7 +31,7 @@ pub fn find_free(places: &[u16], bits: &mut [u64; bits::parts::WORDS])
     let mut w: usize = 0;
     while w * 64 < slots {
         let low = w * 64;
-        let high = crate::parts::smaller(low + 64, slots);
+        let high = racks::parts::smaller(low + 64, slots);
         let word = free_word(places, low, high);
         bits::parts::fill_word(bits, w, word);
         w = w + 1;

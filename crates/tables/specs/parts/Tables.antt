@@ -60,6 +60,12 @@ refusalBy job places n = record { number = n; place = pick (done (job .refused))
 unfoldable pub tableNumber : Job → List ℕ → ℕ
 tableNumber job places = first (known (job .refused) ∷ placesChecks (racksOf job) places)
 
+-- what `places_refusal` gives: the number and its place, and where the number is 0 a sound job and a legal table
+pub record Judged (job : Job) (places : List ℕ) (refusal : Refusal) : Type 0 where
+  pub refusal-is : refusal ≡ refusalBy job places (tableNumber job places)
+  pub sound : refusal .number ≡ 0 → Sound job
+  pub legal : refusal .number ≡ 0 → Legal (racksOf job) places
+
 -- what `table_refusal` gives: the number and its place, and where the number is 0 what acceptance gives
 pub record Checked (job : Job) (places : List ℕ) (refusal : Refusal) (racking : List ℕ) : Type 0 where
   pub refusal-is : refusal ≡ refusalBy job places (tableNumber job places)

@@ -63,7 +63,7 @@ returns : tie.Need-returns Inv-loop μ-loop
 returns c =
     let l = c .before .before in
     let s = l .before .before in
-    once-all (racksOf (s .args .job)) (s .args .places .now) (l .loop .marks) (l .loop .all) (l .loop .g) (omega arith) (l .loop .inv .1)
+    (once-all (racksOf (s .args .job)) (s .args .places .now) (l .loop .marks) (l .loop .all) (l .loop .g) (omega arith) (l .loop .inv .1), l .loop .inv .1 .long)
 
 pub marked-once-spec : {M : Type 1} → statement M
 marked-once-spec =

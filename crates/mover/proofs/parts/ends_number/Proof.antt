@@ -9,7 +9,7 @@ use Rattle.racks.specs.Job.{racksOf}
 use Rattle.racks.proofs.Jobs.{sound-slots}
 use Rattle.racks.proofs.Table.{read-dest}
 use Rattle.racks.proofs.LegalTable.{legal-slot}
-use Rattle.mover.proofs.Ends.{ends-7-from, ends-7-to, ends-8, ends-9, ends-10, ends-11, ends-0}
+use Rattle.moves.proofs.Ends.{ends-7-from, ends-7-to, ends-8, ends-9, ends-10, ends-11, ends-0}
 use Rattle.mover.proofs.parts.ends_number.Statement.{statement}
 use Rattle.mover.proofs.parts.ends_number.Tie as tie
 

@@ -1,0 +1,13 @@
+pub mod Acceptance
+pub mod Calls
+pub mod Points
+pub mod Singles
+pub mod Demand3
+pub mod Figure1
+pub mod Sends
+pub mod Section2
+pub mod Phases
+pub mod Figure1Run
+pub mod Runs
+pub mod Demand2
+pub mod Homes
