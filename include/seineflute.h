@@ -32,16 +32,19 @@
  * There is no heap, so a call's tables lie on the caller's stack. What each call takes, measured at the
  * largest jobs, with half a KB to spare, rounded up to whole KB of 1,024 bytes:
  *
- *     limits                             1
- *     read_file, check_table, one_move  14
- *     write_file                        14
- *     slot_question                     15
- *     phase_plan                        24
- *     budgeted_moves                    40
- *     copy_list                         29
- *     shuffle_cards                     34
- *     whole_run                         48
- *     list_job                         344
+ *     limits                                   1
+ *     check_table, write_file                 10
+ *     slot_question, phase_plan               11
+ *     read_file, one_move                     14
+ *     budgeted_moves                          40
+ *     copy_list                               29
+ *     shuffle_cards                           34
+ *     whole_run                               48
+ *     list_job                               344
+ *
+ * Outside itself the library calls memcpy and memset alone. In a program that binds them lazily the
+ * first such call runs the loader on the same stack, some 4 KB more on x86-64: where the stack is
+ * small, link with -z now, or statically.
  *
  * Large frames are touched page by page, so a stack that is too small ends in its guard page.
  * bindings/rust/examples/stack.rs measures anew, and fails where a call takes more.
@@ -80,15 +83,15 @@ extern "C" {
 #endif
 
 /*
- * The version of this header, which is that of the Rust crate beside it. The structs of 0.4.0 are not
- * those of 0.3: each answer that has a number has a place after it, so what was compiled with an
- * earlier header has to be compiled again: a call would write behind its struct. Where the card bytes
- * of a file begin was `place`, and is `start`: a caller that reads `place` for it still compiles, and
- * has to be changed.
+ * The version of this header, which is that of the Rust crate beside it. The structs are those of
+ * 0.4.0, and not those of 0.3: each answer that has a number has a place after it, so what was compiled
+ * with a header before 0.4.0 has to be compiled again: a call would write behind its struct. Where the
+ * card bytes of a file begin was `place` then, and is `start`: a caller that reads `place` for it still
+ * compiles, and has to be changed.
  */
-#define SEINEFLUTE_VERSION "0.4.0"
+#define SEINEFLUTE_VERSION "0.5.0"
 #define SEINEFLUTE_VERSION_MAJOR 0
-#define SEINEFLUTE_VERSION_MINOR 4
+#define SEINEFLUTE_VERSION_MINOR 5
 #define SEINEFLUTE_VERSION_PATCH 0
 
 /* Limits. */
@@ -276,7 +279,8 @@ seineflute_slot_answer seineflute_slot_question(
  * each, by target rack, source rack and source slot. Each rack takes as many cards as it has free
  * slots at the start of the phase, from the lowest source rack up, and of each source those in the
  * lowest slots; they take its free slots from the lowest up. The moves count is the number of pairs,
- * 0 where nothing is away. Gives 0, 1, 3, 4, 5, 6 or 13.
+ * 0 where nothing is away. The call keeps no table of what racks hold for each other, so that a small
+ * stack is enough: it counts again for each target. Gives 0, 1, 3, 4, 5, 6 or 13.
  */
 seineflute_answer seineflute_phase_plan(
     const uint16_t *caps, size_t caps_len,

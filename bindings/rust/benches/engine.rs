@@ -628,12 +628,53 @@ pub fn phase_plan(caps: &[u16], places: &[u16], list: &mut [u16]) -> Answer {
     };
     let mut phases = Phases::new(&layout, places);
     let moves = phases.plan();
+    write_plan(&phases, moves, list)
+}
+
+/// The phase plan as the library made it before 0.5.0: how many pairs there are
+/// is counted by a table of what each rack owes each other, and only the pairs
+/// themselves come from the queues, which know as much.
+pub fn phase_plan_before(caps: &[u16], places: &[u16], list: &mut [u16]) -> Answer {
+    let layout = match check_job(caps, places) {
+        Ok(layout) => layout,
+        Err(refused) => return refused.into(),
+    };
+    let mut phases = Phases::new(&layout, places);
+    let moves = count_grants(&layout, &phases, places);
+    phases.plan();
+    write_plan(&phases, moves, list)
+}
+
+/// How many cards the racks grant, each to its sources in turn.
+#[inline(always)]
+fn count_grants(layout: &Layout, phases: &Phases, places: &[u16]) -> usize {
+    let mut owes = [0u16; RACKS * RACKS];
+    for p in 0..layout.racks {
+        for &entry in &places[layout.range(p)] {
+            let to = usize::from(phases.rack_of[usize::from(entry) & SLOT_MASK]) & RACK_MASK;
+            owes[p * RACKS + to] += u16::from((entry != FREE) & (to != p));
+        }
+    }
+    let mut granted = 0;
+    for p in 0..layout.racks {
+        let mut room = phases.free[p];
+        for i in 0..layout.racks {
+            room -= room.min(owes[i * RACKS + p]);
+        }
+        granted += usize::from(phases.free[p] - room);
+    }
+    granted
+}
+
+/// Writes the pairs of the present plan, which are so many.
+#[inline(always)]
+fn write_plan(phases: &Phases, moves: usize, list: &mut [u16]) -> Answer {
     if list.len() < 2 * moves {
         return refused(13);
     }
     // Rack by rack and not over `pairs`: a tenth faster.
     let mut written = 0;
-    for p in 0..layout.racks {
+    for p in 0..phases.racks {
         let range = phases.present(p);
         let pairs = phases.queue[range.clone()]
             .iter()

@@ -1,5 +1,8 @@
 //! Jobs to measure: racks, a table and cards. Each shape comes in variants, so that no branch predictor learns one table.
 
+// Tests measure the stack on these tables, and make no files of them.
+#![allow(dead_code)]
+
 pub const FREE: u16 = 65_535;
 
 /// A small generator of random numbers (splitmix64).
@@ -129,6 +132,16 @@ pub fn transposed(caps: &[u16], b: usize, dice: &mut Dice) -> Job {
 
 /// Half of the user slots hold a card, bound for any user slot.
 pub fn half_full(caps: &[u16], b: usize, dice: &mut Dice) -> Job {
+    partly_full(caps, b, dice, 2)
+}
+
+/// The same with a quarter of them.
+pub fn quarter_full(caps: &[u16], b: usize, dice: &mut Dice) -> Job {
+    partly_full(caps, b, dice, 4)
+}
+
+/// One user slot in so many holds a card.
+fn partly_full(caps: &[u16], b: usize, dice: &mut Dice, one_in: usize) -> Job {
     let (base, s) = bases(caps);
     let mut users: Vec<u16> = Vec::new();
     for (p, &m) in caps.iter().enumerate() {
@@ -138,7 +151,7 @@ pub fn half_full(caps: &[u16], b: usize, dice: &mut Dice) -> Job {
     dice.shuffle(&mut from);
     dice.shuffle(&mut users);
     let mut places = vec![FREE; s];
-    for i in 0..users.len() / 2 {
+    for i in 0..users.len() / one_in {
         places[from[i] as usize] = users[i];
     }
     job(caps.to_vec(), b, places, dice)
@@ -169,6 +182,33 @@ pub fn chain(m: u16, b: usize, dice: &mut Dice, closed: bool) -> Job {
     }
     job(vec![m], b, places, dice)
 }
+
+/// A job's name, and how it is made with cards of b bytes.
+pub type Shape = (&'static str, fn(usize, &mut Dice) -> Job);
+
+pub const SHAPES: [Shape; 11] = [
+    ("case 1", case_1),
+    ("8x8 ring", |b, d| ring(&[8; 8], b, d)),
+    ("8x8 transposed", |b, d| transposed(&[8; 8], b, d)),
+    ("1x1023 two-cycles", |b, d| two_cycles(1023, b, d)),
+    ("1x1023 one shift", |b, d| chain(1023, b, d, false)),
+    ("1x1023 one cycle", |b, d| chain(1023, b, d, true)),
+    ("4x1008 ring", |b, d| ring(&[1008; 4], b, d)),
+    ("1023 1023 1023 963 ring", |b, d| {
+        ring(&[1023, 1023, 1023, 963], b, d)
+    }),
+    ("64x63 transposed", |b, d| transposed(&[63; 64], b, d)),
+    ("64x63 ring", |b, d| ring(&[63; 64], b, d)),
+    ("64x63 half full", |b, d| half_full(&[63; 64], b, d)),
+];
+
+/// More of them for the phase plan, which counts again for each rack that has room: here all have, for cards from everywhere.
+pub const PLAN_SHAPES: [Shape; 4] = [
+    ("64x63 quarter full", |b, d| quarter_full(&[63; 64], b, d)),
+    ("16x251 half full", |b, d| half_full(&[251; 16], b, d)),
+    ("4x1008 half full", |b, d| half_full(&[1008; 4], b, d)),
+    ("64x7 half full", |b, d| half_full(&[7; 64], b, d)),
+];
 
 /// A number as a file has it: groups of seven bits, lowest first.
 fn put_number(file: &mut Vec<u8>, mut x: usize) {

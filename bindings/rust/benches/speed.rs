@@ -12,8 +12,8 @@ mod engine;
 mod plain;
 mod shapes;
 
-use seineflute::raw;
-use shapes::{Dice, Job};
+use seineflute::{raw, PLAN_ROOM};
+use shapes::{Dice, Job, PLAN_SHAPES, SHAPES};
 use std::fs::File;
 use std::hint::black_box;
 use std::io::Write;
@@ -43,11 +43,14 @@ type Call = fn(&Job, &mut Desk, &Extra) -> (usize, usize);
 struct Extra {
     from: usize,
     to: usize,
+    /// How many pairs the plan has.
+    pairs: usize,
     file: Vec<u8>,
 }
 
+/// The calls of a version, in the order of `ROWS`, and its plan for the row `plan, before`.
 macro_rules! version {
-    ($m:ident) => {
+    ($m:ident, $before:path) => {
         [
             |j: &Job, _: &mut Desk, _: &Extra| {
                 let r = $m::check_table(&j.caps, &j.places);
@@ -58,7 +61,7 @@ macro_rules! version {
                 (r.number, r.state)
             },
             |j: &Job, d: &mut Desk, _: &Extra| {
-                let r = $m::phase_plan(&j.caps, &j.places, &mut d.list);
+                let r = $m::phase_plan(&j.caps, &j.places, &mut d.list[..PLAN_ROOM]);
                 (r.number, r.moves)
             },
             |j: &Job, d: &mut Desk, x: &Extra| {
@@ -79,7 +82,8 @@ macro_rules! version {
                 (r.number, r.moves)
             },
             |j: &Job, d: &mut Desk, _: &Extra| {
-                let r = $m::copy_list(&j.caps, &j.places, &mut d.list);
+                let room = 3 * j.places.len();
+                let r = $m::copy_list(&j.caps, &j.places, &mut d.list[..room]);
                 (r.number, r.copies)
             },
             |j: &Job, d: &mut Desk, _: &Extra| {
@@ -101,6 +105,14 @@ macro_rules! version {
             |_: &Job, d: &mut Desk, x: &Extra| {
                 let r = $m::list_job(&x.file, &mut d.text);
                 (r.number, r.size)
+            },
+            |j: &Job, d: &mut Desk, x: &Extra| {
+                let r = $m::phase_plan(&j.caps, &j.places, &mut d.list[..2 * x.pairs]);
+                (r.number, r.moves)
+            },
+            |j: &Job, d: &mut Desk, _: &Extra| {
+                let r = $before(&j.caps, &j.places, &mut d.list[..PLAN_ROOM]);
+                (r.number, r.moves)
             },
         ]
     };
@@ -126,47 +138,58 @@ impl Moved {
     }
 }
 
-/// A call's name, whether it is made on tables with nothing away, and the bytes it moves.
+/// The tables that a call is made on.
+#[derive(Clone, Copy, PartialEq)]
+enum On {
+    /// Those of every job.
+    Tables,
+    /// The same with nothing away.
+    Gathered,
+    /// Those of every job, and of the shapes that are there for the plan.
+    PlanTables,
+}
+
+/// A call's name, the tables it is made on, and the bytes it moves.
 struct Row {
     name: &'static str,
-    shuffling: bool,
+    on: On,
     moved: Moved,
 }
 
-const fn row(name: &'static str, shuffling: bool, moved: Moved) -> Row {
-    Row {
-        name,
-        shuffling,
-        moved,
-    }
+const fn row(name: &'static str, on: On, moved: Moved) -> Row {
+    Row { name, on, moved }
 }
 
-const ROWS: [Row; 13] = [
-    row("check", false, Moved::Nothing),
-    row("slot", false, Moved::Nothing),
-    row("plan", false, Moved::Nothing),
-    row("one move", false, Moved::Counted),
-    row("budget 1", false, Moved::Counted),
-    row("budget 100", false, Moved::Counted),
-    row("budget all", false, Moved::Counted),
-    row("copy list", true, Moved::Nothing),
-    row("shuffle", true, Moved::Counted),
-    row("whole run", false, Moved::Counted),
-    row("read file", false, Moved::Nothing),
-    row("write file", false, Moved::Cards),
-    row("listing", false, Moved::Nothing),
+const ROWS: [Row; 15] = [
+    row("check", On::Tables, Moved::Nothing),
+    row("slot", On::Tables, Moved::Nothing),
+    row("plan", On::PlanTables, Moved::Nothing),
+    row("one move", On::Tables, Moved::Counted),
+    row("budget 1", On::Tables, Moved::Counted),
+    row("budget 100", On::Tables, Moved::Counted),
+    row("budget all", On::Tables, Moved::Counted),
+    row("copy list", On::Gathered, Moved::Nothing),
+    row("shuffle", On::Gathered, Moved::Counted),
+    row("whole run", On::Tables, Moved::Counted),
+    row("read file", On::Tables, Moved::Nothing),
+    row("write file", On::Tables, Moved::Cards),
+    row("listing", On::Tables, Moved::Nothing),
+    // The list of `plan` is long enough for every job. This one is so for the job alone: 13 has to be decided.
+    row("plan, exact list", On::PlanTables, Moved::Nothing),
+    // Beside a plan with tables, as the library had it before 0.5.0.
+    row("plan, before", On::PlanTables, Moved::Nothing),
 ];
 
-const OURS: [Call; 13] = version!(raw);
-const ENGINE: [Call; 13] = version!(engine);
-const PLAIN: [Call; 13] = version!(plain);
+const OURS: [Call; 15] = version!(raw, raw::phase_plan);
+const ENGINE: [Call; 15] = version!(engine, engine::phase_plan_before);
+const PLAIN: [Call; 15] = version!(plain, plain::phase_plan);
 
 /// The desks of a job: one, but of a small job several.
 fn desks(job: &Job) -> Vec<Desk> {
     let desk = || Desk {
         places: job.places.clone(),
         cards: job.cards.clone(),
-        list: vec![0; 3 * job.places.len() + 2],
+        list: vec![0; PLAN_ROOM.max(3 * job.places.len())],
         caps: vec![0; 64],
         file: vec![0; 3 + 2 * (job.caps.len() + job.places.len()) + job.cards.len()],
         text: vec![0; seineflute::TEXT_ROOM],
@@ -210,6 +233,7 @@ fn extra_of(job: &Job) -> Extra {
     Extra {
         from,
         to,
+        pairs: plan.moves,
         file: shapes::file_of(job),
     }
 }
@@ -292,26 +316,6 @@ fn dirty(list: &mut [u8]) {
     }
 }
 
-type Shape = (&'static str, fn(usize, &mut Dice) -> Job);
-
-const SHAPES: [Shape; 11] = [
-    ("case 1", shapes::case_1),
-    ("8x8 ring", |b, d| shapes::ring(&[8; 8], b, d)),
-    ("8x8 transposed", |b, d| shapes::transposed(&[8; 8], b, d)),
-    ("1x1023 two-cycles", |b, d| shapes::two_cycles(1023, b, d)),
-    ("1x1023 one shift", |b, d| shapes::chain(1023, b, d, false)),
-    ("1x1023 one cycle", |b, d| shapes::chain(1023, b, d, true)),
-    ("4x1008 ring", |b, d| shapes::ring(&[1008; 4], b, d)),
-    ("1023 1023 1023 963 ring", |b, d| {
-        shapes::ring(&[1023, 1023, 1023, 963], b, d)
-    }),
-    ("64x63 transposed", |b, d| {
-        shapes::transposed(&[63; 64], b, d)
-    }),
-    ("64x63 ring", |b, d| shapes::ring(&[63; 64], b, d)),
-    ("64x63 half full", |b, d| shapes::half_full(&[63; 64], b, d)),
-];
-
 /// The time of a call, in nanoseconds where microseconds would show 0.
 fn shown(ns: f64) -> String {
     if ns < 1000.0 {
@@ -329,7 +333,7 @@ fn print_row(name: &str, b: usize, call: usize, t: &Times) {
         String::from("-")
     };
     println!(
-        "{:<24} {:>3}  {:<10} {:>10} {:>8.2} {:>8.3} {:>8}",
+        "{:<24} {:>3}  {:<16} {:>10} {:>8.2} {:>8.3} {:>8}",
         name,
         b,
         ROWS[call].name,
@@ -374,19 +378,25 @@ fn main() {
     });
     println!("times of a call (ours), then ratios: ours to the engine in Rust, ours to the text in Rust, ours to memcpy of the bytes moved");
     println!(
-        "{:<24} {:>3}  {:<10} {:>10} {:>8} {:>8} {:>8}",
+        "{:<24} {:>3}  {:<16} {:>10} {:>8} {:>8} {:>8}",
         "job", "B", "call", "ours", "engine", "text", "memcpy"
     );
-    for (name, make) in SHAPES {
+    // The plan looks at no card, so that one size of them is enough for its own shapes.
+    let of_all = SHAPES.map(|shape| (shape, &[1, 16, 256][..], On::Tables));
+    let of_plan = PLAN_SHAPES.map(|shape| (shape, &[1][..], On::PlanTables));
+    for ((name, make), sizes, on) in of_all.into_iter().chain(of_plan) {
         if only.as_ref().is_some_and(|x| !name.contains(x.as_str())) {
             continue;
         }
-        for b in [1, 16, 256] {
+        for &b in sizes {
             let mut dice = Dice::new(2026);
             let away: Vec<Job> = (0..VARIANTS).map(|_| make(b, &mut dice)).collect();
             let home: Vec<Job> = away.iter().map(gathered).collect();
             for (call, row) in ROWS.iter().enumerate() {
-                let jobs = if row.shuffling { &home } else { &away };
+                if on == On::PlanTables && row.on != On::PlanTables {
+                    continue;
+                }
+                let jobs = if row.on == On::Gathered { &home } else { &away };
                 let t = measure(call, jobs, rounds, rounds.div_ceil(10));
                 print_row(name, b, call, &t);
                 if let Some(file) = &mut table {

@@ -1,16 +1,13 @@
 //! How much stack each call takes, at the largest jobs: makes each call on a
-//! painted stack of its own, and looks how far down the paint is gone. Fails where
-//! a call takes more than its figure (`tests/figures`), as does its test, which
-//! `cargo test` runs.
+//! painted stack of its own, and looks how far down the paint is gone. The calls
+//! that have to do with a small stack are made on tables of every shape of the
+//! benchmark besides, accepted and refused (`tests/questions`). Fails where a call
+//! takes more than its figure (`tests/figures`), as does its test, which `cargo
+//! test` runs. The figures are those of x86-64: a build for another processor, to
+//! be tried there, has other frames, and may be said to take too much.
 //!
 //!     cargo run --release --offline --example stack
 
-#[cfg(not(all(target_arch = "x86_64", target_os = "linux")))]
-fn main() {
-    println!("the library is for Linux on x86-64 only");
-}
-
-#[cfg(all(target_arch = "x86_64", target_os = "linux"))]
 fn main() -> std::process::ExitCode {
     if measured::table() {
         std::process::ExitCode::SUCCESS
@@ -19,25 +16,29 @@ fn main() -> std::process::ExitCode {
     }
 }
 
-#[cfg(all(target_arch = "x86_64", target_os = "linux"))]
+/// The figures are those of x86-64. What is compiled for another processor, to be
+/// tried there, has other frames.
+#[cfg(target_arch = "x86_64")]
 #[test]
 fn no_call_takes_more_than_its_figure() {
     assert!(measured::table());
 }
 
-#[cfg(all(target_arch = "x86_64", target_os = "linux"))]
 #[path = "../tests/figures/mod.rs"]
 mod figures;
+#[path = "../tests/painted/mod.rs"]
+mod painted;
+#[path = "../tests/questions/mod.rs"]
+mod questions;
 
-#[cfg(all(target_arch = "x86_64", target_os = "linux"))]
 mod measured {
     use crate::figures::STACK;
+    use crate::painted::depth;
+    use crate::questions::{self, KINDS};
     use seineflute::{raw, COPY_ROOM, FREE, MAX_BYTES, MAX_RACKS, MAX_SLOTS, PLAN_ROOM, TEXT_ROOM};
-    use std::arch::asm;
 
-    /// The painted stack, in words: 2 MB, far more than the deepest call takes.
-    const WORDS: usize = 1 << 18;
-    const PAINT: u64 = 0x5EA1_F1A7_E5EA_F1A7;
+    /// The painted stack: 2 MB, far more than the deepest call takes.
+    const PAINTED: usize = 1 << 21;
 
     /// A job with the room that calls are lent.
     #[derive(Clone)]
@@ -122,31 +123,6 @@ mod measured {
         job.number = raw::list_job(&job.small, &mut job.text).number;
     }
 
-    /// The bytes of stack that a call takes.
-    fn depth(call: Call, job: &mut Job) -> usize {
-        let mut stack = vec![PAINT; WORDS];
-        // SAFETY: the call runs on memory that is ours and large enough, as is
-        // looked at below; the stack pointer is 16-aligned there, is kept in a
-        // register that a callee keeps, and comes back before anything else.
-        unsafe {
-            let top = stack.as_mut_ptr().add(WORDS) as usize & !15;
-            asm!(
-                "mov r12, rsp",
-                "mov rsp, {top}",
-                "call {call}",
-                "mov rsp, r12",
-                top = in(reg) top,
-                call = in(reg) call,
-                inout("rdi") job => _,
-                out("r12") _,
-                clobber_abi("C"),
-            );
-        }
-        let kept = stack.iter().take_while(|&&word| word == PAINT).count();
-        assert!(kept > 0, "the painted stack is too small");
-        8 * (WORDS - kept)
-    }
-
     /// A job of racks, and for slot u of a rack with m user slots the rack, from
     /// its own, and the user slot that it names.
     fn job(caps: &[u16], entry: impl Fn(usize, usize) -> Option<(usize, usize)>) -> Job {
@@ -193,6 +169,37 @@ mod measured {
         file.push(x as u8);
     }
 
+    /// The most that a call takes on the questions of each kind; none where it has none.
+    type Asked = (&'static str, [Option<usize>; KINDS.len()]);
+
+    fn ask() -> Vec<Asked> {
+        let mut asked = questions::CALLS.map(|(name, _)| (name, [None; KINDS.len()]));
+        for mut question in questions::all() {
+            let bytes = depth(PAINTED, question.make, &mut question.lent);
+            question.hold(question.lent.answer);
+            let row = asked.iter_mut().find(|row| row.0 == question.call);
+            let kind = KINDS.iter().position(|&kind| kind == question.kind);
+            let most = &mut row.expect("a call").1[kind.expect("a kind")];
+            *most = (*most).max(Some(bytes));
+        }
+        asked.into()
+    }
+
+    /// Prints them, the largest last, which is what counts.
+    fn print_asked(asked: &[Asked]) {
+        println!("\nthe largest on tables of every shape of the benchmark: done, with a list that is exactly long enough, and refused");
+        print!("{:16}", "");
+        KINDS.iter().for_each(|kind| print!("{kind:>9}"));
+        println!("{:>9}", "largest");
+        for (name, most) in asked {
+            print!("{name:16}");
+            for bytes in most {
+                print!("{:>9}", bytes.map_or("-".to_string(), |x| x.to_string()));
+            }
+            println!("{:>9}", most.iter().flatten().max().expect("a question"));
+        }
+    }
+
     /// Calls on the painted stack and prints a line for each; gives whether every
     /// figure is enough.
     pub fn table() -> bool {
@@ -228,7 +235,8 @@ mod measured {
             ("list_job", list_job),
         ];
         let jobs = [ring, shift, cycle, turned];
-        println!("bytes of stack; in brackets the number that the call gave; KB with half a KB to spare, and the figure");
+        let asked = ask();
+        println!("bytes of stack; in brackets the number that the call gave; KB of the largest, those below too, with half a KB to spare, and the figure");
         println!(
             "{:16}{:>14}{:>14}{:>14}{:>14}{:>6}{:>8}",
             "", "ring", "shift", "cycle", "turned", "KB", "figure"
@@ -236,11 +244,14 @@ mod measured {
         let mut enough = true;
         for (name, call) in calls {
             print!("{name:16}");
-            let mut most = 0;
+            let of_name = asked.iter().find(|row| row.0 == name);
+            let mut most = of_name
+                .and_then(|row| row.1.into_iter().flatten().max())
+                .unwrap_or(0);
             let mut done = false;
             for job in &jobs {
                 let mut job = job.clone();
-                let bytes = depth(call, &mut job);
+                let bytes = depth(PAINTED, call, &mut job);
                 print!("{:>14}", format!("{bytes} [{}]", job.number));
                 most = most.max(bytes);
                 done |= job.number == 0;
@@ -259,6 +270,7 @@ mod measured {
                 }
             }
         }
+        print_asked(&asked);
         assert_eq!(calls.len(), STACK.len() + 1, "every figure is measured");
         enough
     }

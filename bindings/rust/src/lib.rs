@@ -107,10 +107,9 @@
 //! | call | KB |
 //! |---|---|
 //! | `limits` | 1 |
-//! | `read_file`, `check_table`, `one_move` | 14 |
-//! | `write_file` | 14 |
-//! | `slot_question` | 15 |
-//! | `phase_plan` | 24 |
+//! | `check_table`, `write_file` | 10 |
+//! | `slot_question`, `phase_plan` | 11 |
+//! | `read_file`, `one_move` | 14 |
 //! | `budgeted_moves` | 40 |
 //! | `copy_list` | 29 |
 //! | `shuffle_cards` | 34 |
@@ -445,7 +444,9 @@ pub fn slot_question(caps: &[u16], places: &[u16], slot: usize) -> Result<Slot, 
 
 /// Phase plan: writes the pairs (from, to) of the present phase to the front of
 /// `list`, two numbers each, and counts them as moves. [`PLAN_ROOM`] is always
-/// room enough. Refuses with 1, 3 to 6, or 13.
+/// room enough. It keeps no table of what racks hold for each other and counts
+/// again for each target, so that a small stack is enough. Refuses with 1, 3 to 6,
+/// or 13.
 pub fn phase_plan(caps: &[u16], places: &[u16], list: &mut [u16]) -> Result<Counts, Refusal> {
     counted(raw::phase_plan(caps, places, list))
 }

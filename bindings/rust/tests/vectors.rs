@@ -3,10 +3,10 @@
 //!
 //! `VECTORS` names another directory of the same shape.
 //!
-//! They stand as they were made. Since 0.4.0, which `q02.jsonl` and `shelve-after-2`
-//! know, 5 and 6 have a place, and what was 14 is 20 where a number has more than
-//! three groups: of the older ones no place of 5 and 6 is asked for, and for 14 they
-//! are held to the number that the file's bytes now have (`since_q02`).
+//! They stand as they were made. Since 0.4.0, which `q02.jsonl`, `shelve-after-2` and
+//! those made later know, 5 and 6 have a place, and what was 14 is 20 where a number
+//! has more than three groups: of the older ones no place of 5 and 6 is asked for, and
+//! for 14 they are held to the number that the file's bytes now have (`since_q02`).
 
 #[path = "../benches/engine.rs"]
 mod engine;
@@ -45,7 +45,10 @@ fn vectors() -> PathBuf {
 }
 
 /// The calls of the base, and those of each request that has landed.
-const CALLS: [&str; 3] = ["calls.jsonl", "q01.jsonl", "q02.jsonl"];
+const CALLS: [&str; 4] = ["calls.jsonl", "q01.jsonl", "q02.jsonl", "q03.jsonl"];
+
+/// Those that were made before 0.4.0.
+const OLDER: [&str; 2] = ["calls.jsonl", "q01.jsonl"];
 
 /// The listings of the base, and those of each request that changed some.
 const LISTINGS: [&str; 2] = ["shelve", "shelve-after-2"];
@@ -65,8 +68,8 @@ fn run_lines(mover: &impl Mover, name: &str) {
         let at = format!("{name}, line {}", index + 1);
         let value = json::parse(line).unwrap_or_else(|error| panic!("{at}: {error}"));
         let vector = Vector { at, value };
-        // `q01.jsonl` and `calls.jsonl` have no place: a newer line without one is at fault.
-        assert_eq!(vector.is_older(), name != "q02.jsonl", "{}", vector.at);
+        // They have no place: a newer line without one is at fault.
+        assert_eq!(vector.is_older(), OLDER.contains(&name), "{}", vector.at);
         if let Err(what) = vector.run(mover) {
             wrong.push(format!("{}: {what}\n  {line}", vector.at));
         }

@@ -5,12 +5,12 @@
 
 pub const STACK: [(&str, usize); 12] = [
     ("limits", 1),
+    ("check_table", 10),
+    ("slot_question", 11),
+    ("phase_plan", 11),
     ("read_file", 14),
-    ("write_file", 14),
-    ("check_table", 14),
+    ("write_file", 10),
     ("one_move", 14),
-    ("slot_question", 15),
-    ("phase_plan", 24),
     ("budgeted_moves", 40),
     ("copy_list", 29),
     ("shuffle_cards", 34),
