@@ -1,10 +1,12 @@
 // Answers: the number, its place and the counts that every call gives.
+#![tactic(auto)]
+
 ghost use Rattle.answers.specs.Answers.{TallyNone, TallyOfMoves, TallyOfCopies, RefusalOf, AnswerRefused, AnswerOf, AnswerDone};
 
 pub mod parts;
 
 // The counts of phases, moves and copies.
-#[derive(Drop)]
+#[derive(Clone, Copy)]
 pub struct Tally {
     pub phases: usize,
     pub moves: usize,
@@ -42,7 +44,7 @@ impl Tally {
 }
 
 // What a check gives: a number of the rules' list, 0 where it refuses nothing, and the place that goes with it.
-#[derive(Drop)]
+#[derive(Clone, Copy)]
 pub struct Refusal {
     pub number: u8,
     pub place: usize,
@@ -58,7 +60,7 @@ impl Refusal {
 }
 
 // What every call gives: a number of the rules' list, the place that goes with it, and the counts.
-#[derive(Drop)]
+#[derive(Clone, Copy)]
 pub struct Answer {
     pub number: u8,
     pub place: usize,
@@ -98,7 +100,7 @@ impl Answer {
 }
 
 // What a call gives that writes bytes into a lent buffer: the number, its place, and how many bytes it wrote.
-#[derive(Drop)]
+#[derive(Clone, Copy)]
 pub struct SizeAnswer {
     pub answer: Answer,
     pub size: usize,

@@ -1,6 +1,7 @@
 // What the layers above share: the bits of a word, and a set of numbers below 4,096 as bits.
 ghost use Rattle.std.specs.Prelude.{◌≡◌, ◌≤◌, ◌<◌, length};
-ghost use Rattle.bits.specs.parts.Bits.{NUMBERS, WORDS, TOP, bit_on, turned_on, turned_off, included, filled, cleared, Topped, NextOn, Walking, Onward, WalkedOn};
+ghost use Rattle.bits.specs.parts.Bits as defined;
+ghost use Rattle.bits.specs.parts.Bits.{NUMBERS, bit_on, turned_on, turned_off, included, filled, cleared, Topped, NextOn, Walking, Onward, WalkedOn};
 
 // The words of a set: one for each 64 numbers below 4,096, one with a bit for each of those that is not empty, and one more, which is its user's.
 pub const WORDS: usize = 66;
@@ -10,8 +11,8 @@ pub const TOP: usize = 64;
 
 // The words of the code are those of the definitions.
 pub fn words_agree()
-    ensures* do_value { do ⌜ WORDS ≡ (← (⟦WORDS⟧).entry) ⌝ }
-    ensures* do_value_2 { do ⌜ TOP ≡ (← (⟦TOP⟧).entry) ⌝ }
+    ensures words { defined.WORDS ≡ WORDS }
+    ensures top { defined.TOP ≡ TOP }
 {}
 
 // The first bit of a word from bit s up that is on; 64 where none is.
@@ -47,7 +48,7 @@ pub fn turn_off(word: u64, b: usize) -> u64
 
 // Number g into the set.
 pub fn mark(words: &mut [u64; WORDS], g: usize)
-    requires { (length words.old ≡ WORDS) × (g < NUMBERS) }
+    requires { (length words.old ≡ defined.WORDS) × (g < NUMBERS) }
     ensures { words.new ≡ included words.old g }
 {
     let w = g / 64;
@@ -57,7 +58,7 @@ pub fn mark(words: &mut [u64; WORDS], g: usize)
 
 // A word of numbers into the set, where it had none.
 pub fn fill_word(words: &mut [u64; WORDS], w: usize, word: u64)
-    requires { (length words.old ≡ WORDS) × (w < 64) }
+    requires { (length words.old ≡ defined.WORDS) × (w < 64) }
     ensures { words.new ≡ filled words.old w word }
 {
     words[w] = word;
@@ -68,7 +69,7 @@ pub fn fill_word(words: &mut [u64; WORDS], w: usize, word: u64)
 
 // Number g out of the set.
 pub fn clear(words: &mut [u64; WORDS], g: usize)
-    requires { (length words.old ≡ WORDS) × (g < NUMBERS) }
+    requires { (length words.old ≡ defined.WORDS) × (g < NUMBERS) }
     ensures { words.new ≡ cleared words.old g }
 {
     let w = g / 64;
@@ -80,7 +81,7 @@ pub fn clear(words: &mut [u64; WORDS], g: usize)
 }
 
 // A walk over the set, word by word: bit k of what is left of a word is number at + k.
-#[derive(Drop)]
+#[derive(Clone, Copy)]
 pub struct Walk {
     pub at: usize,
     pub rest: u64,

@@ -1,4 +1,6 @@
 // Budgeted moves.
+#![tactic(auto)]
+
 ghost use Rattle.moves.specs.Phases.{BudgetedMoves};
 ghost use Rattle.moves.specs.Moves.{held, outcome_of};
 

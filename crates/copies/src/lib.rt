@@ -1,4 +1,6 @@
 // The copy list.
+#![tactic(auto)]
+
 ghost use Rattle.factors.specs.Copies.{CopyList};
 
 use answers::Answer;

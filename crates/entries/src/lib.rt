@@ -1,2 +1,4 @@
 // Entries: the numbers 5 and 6 of a table.
+#![tactic(auto)]
+
 pub mod parts;

@@ -1,5 +1,5 @@
 -- The copy list has one copy for every card that is not settled, and one more for every cycle. Assumes nothing.
-use mathlib.Core.Path.{◌≡◌, refl, sym, ap, ◌∙◌}
+use mathlib.Core.Path.{◌≡◌, refl, sym, ap, subst, ◌∙◌}
 use mathlib.Core.Logic.{◌≢◌, inl, inr}
 use mathlib.Core.Bool.{Bool, true, false, not}
 use mathlib.Core.List.{List, [], ◌∷◌}
@@ -97,7 +97,7 @@ module _ {places : List ℕ} (ok : Chained places) where
       )
   chain-cost x (y ∷ l) p d b (inr e) =
       let q : dest places (last y l) ≢ FREE = rw e (no-free x b) in
-      let r : dest places (last y l) ≢ last y l = λ u. d.0 (rw (sym u ∙ e) at (last_in y l)) in
+      let r : dest places (last y l) ≢ last y l = λ u. d.0 (subst (λ (n : ℕ). In n (y ∷ l)) (sym u ∙ e) (last_in y l)) in
       omega (
         arith,
         ap length (copies-cycle places x (y ∷ l) q),

@@ -87,11 +87,13 @@ module _ {places : List ℕ} (ok : Chained places) where
   Whole seen = (g : ℕ) → dest places g ≢ FREE → (In g seen → In (dest places g) seen) × (In (dest places g) seen → In g seen)
 
   head_in : (seen : List ℕ) → Whole seen → (s x v : ℕ) (l : List ℕ) → Path (dest places) s x l → In v (x ∷ l) → In v seen → In x seen
+  head_in seen cl s x v [] w (inr u) m = elim u [ ]
   head_in seen cl s x v [] w (inl e) m = rw e at m
   head_in seen cl s x v (y ∷ l) w (inl e) m = rw e at m
   head_in seen cl s x v (y ∷ l) w (inr u) m = (cl x (rw w.0 w.1)).1 (rw w.0 (head_in seen cl s y v l w.3 u m))
 
   all_in : (seen : List ℕ) → Whole seen → (s x v : ℕ) (l : List ℕ) → Path (dest places) s x l → In v (x ∷ l) → In x seen → In v seen
+  all_in seen cl s x v [] w (inr u) m = elim u [ ]
   all_in seen cl s x v [] w (inl e) m = rw e m
   all_in seen cl s x v (y ∷ l) w (inl e) m = rw e m
   all_in seen cl s x v (y ∷ l) w (inr u) m = all_in seen cl s y v l w.3 u (rw w.0 at ((cl x (rw w.0 w.1)).0 m))

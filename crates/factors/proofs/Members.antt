@@ -18,6 +18,7 @@ use Rattle.counting.specs.Every.{In, Distinct}
 -- a member is found by the test
 pub in-among : (x : ℕ) (l : List ℕ) → In x l → among x l ≡ true
 unfolding among
+in-among x [] x'' = elim x'' [ ]
 in-among x (y ∷ l) (inl e) = or_l _ (eq-eqb x y e)
 in-among x (y ∷ l) (inr m) = or_r (eqb x y) (in-among x l m)
 
@@ -37,6 +38,7 @@ in? x l = by-test (among x l) (λ t. yes (among_in x l t)) (λ t. no (λ m. no_w
 
 -- a member of the former list is one of both
 pub in_left : (x : ℕ) (a b : List ℕ) → In x a → In x (a ++ b)
+in_left x [] b x'' = elim x'' [ ]
 in_left x (y ∷ a) b (inl e) = inl e
 in_left x (y ∷ a) b (inr m) = inr (in_left x a b m)
 

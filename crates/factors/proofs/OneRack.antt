@@ -35,6 +35,7 @@ module _ {racks : List Rack} {places : List ℕ} (v : Legal racks places) (few :
       ]
 
   path-rack : (s x w : ℕ) (l : List ℕ) → Path (dest places) s x l → In w (x ∷ l) → rack_of racks w ≡ rack_of racks x
+  path-rack s x w [] p (inr m) = elim m [ ]
   path-rack s x w [] p (inl e) = ap (rack_of racks) e
   path-rack s x w (y ∷ l) p (inl e) = ap (rack_of racks) e
   path-rack s x w (y ∷ l) p (inr m) = path-rack s y w l p.3 m ∙ ap (rack_of racks) (sym p.0) ∙ dest-rack x (rw p.0 p.1)

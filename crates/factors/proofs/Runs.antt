@@ -1,5 +1,5 @@
 -- What copies do to the contents of slots and of the hand, whatever these are: a shift, and a cycle. Assumes nothing.
-use mathlib.Core.Path.{◌≡◌, refl, sym, ap, ◌∙◌}
+use mathlib.Core.Path.{◌≡◌, refl, sym, ap, ◌∙◌, subst}
 use mathlib.Core.Logic.{◌≢◌, ◌⊎◌, inl, inr}
 use mathlib.Core.List.{List, [], ◌∷◌, ◌++◌}
 use Prim.Native.Nat.{ℕ}
@@ -50,6 +50,7 @@ module _ {A : Type 0} where
   pub shift-moves : (f : ℕ → ℕ) (s x g : ℕ) (l : List ℕ) → Path f s x l → Distinct (x ∷ l) → In g (x ∷ l)
       → (In (f g) l × ((c : ℕ → A) → run (shift x l) c (f g) ≡ c g)) ⊎ (g ≡ last x l)
   unfolding shift run last
+  shift-moves f s x g [] p n (inr m) = elim m [ ]
   shift-moves f s x g [] p n (inl e) = inr e
   shift-moves f s x g (y ∷ l) p n (inl e) = inl (inl to, moved)
     where
@@ -75,6 +76,7 @@ module _ {A : Type 0} where
   pub cycle-moves : (f : ℕ → ℕ) (x g : ℕ) (l : List ℕ) (c : ℕ → A) → Path f x x l → Distinct (x ∷ l) → ¬ In HAND (x ∷ l) → f (last x l) ≡ x → In g (x ∷ l)
       → run (cycle x l) c (f g) ≡ c g
   unfolding cycle run last
+  cycle-moves f x g [] c p n h e (inr x7) = elim x7 [ ]
   cycle-moves f x g [] c p n h e (inl q) = ap c (ap f q ∙ e ∙ sym q)
   cycle-moves f x g (y ∷ l) c p n h e m = rw run_snoc (go (shift-moves f x x g (y ∷ l) p n m))
     where
@@ -85,5 +87,5 @@ module _ {A : Type 0} where
       c2 = run (shift x (y ∷ l)) c1
 
       go : (In (f g) (y ∷ l) × ((c : ℕ → A) → run (shift x (y ∷ l)) c (f g) ≡ c g)) ⊎ (g ≡ last y l) → put c2 HAND x (f g) ≡ c g
-      go (inl t) = put_other c2 HAND x (f g) (λ q. n.0 (rw q at t.0)) ∙ t.1 c1 ∙ put_other c (last y l) HAND g (λ q. h (rw q at m))
+      go (inl t) = put_other c2 HAND x (f g) (λ q. n.0 (subst (λ (n : ℕ). In n (y ∷ l)) q t.0)) ∙ t.1 c1 ∙ put_other c (last y l) HAND g (λ q. h (subst (λ (n : ℕ). In n (y ∷ l)) q m))
       go (inr q) = put_same c2 HAND x (f g) (ap f q ∙ e) ∙ shift_keeps x HAND (y ∷ l) c1 (λ u. h (inr u)) ∙ put_same c (last y l) HAND HAND refl ∙ ap c (sym q)

@@ -1,5 +1,5 @@
 -- A walk along a partial one-to-one function of the slots, where 65,535 is no slot, and the walk back along its inverse. Assumes nothing.
-use mathlib.Core.Path.{◌≡◌, refl, sym, ap, ◌∙◌}
+use mathlib.Core.Path.{◌≡◌, refl, sym, ap, subst, ◌∙◌}
 use mathlib.Core.Logic.{◌≢◌, ◌⊎◌, inl, inr}
 use mathlib.Core.List.{List, [], ◌∷◌}
 use Prim.Native.Nat.{ℕ, zero, suc, ◌≤◌, ◌<◌}
@@ -65,17 +65,20 @@ module _ (f : ℕ → ℕ) (s : ℕ) where
   ]
 
   not_start : (x : ℕ) (l : List ℕ) → Path f s x l → ¬ In s l
+  not_start x [] p x4 = elim x4 [ ]
   not_start x (y ∷ l) p (inl e) = p.2 (sym e)
   not_start x (y ∷ l) p (inr m) = not_start y l p.3 m
 
   -- a slot of the list is f of a slot before it
   pub comes-from : (x v : ℕ) (l : List ℕ) → Path f s x l → In v l → (z : ℕ) × In z (x ∷ l) × (f z ≡ v) × (v ≢ FREE)
+  comes-from x v [] p x4 = elim x4 [ ]
   comes-from x v (y ∷ l) p (inl e) = (x, inl refl, p.0 ∙ sym e, rw (← e) at p.1)
   comes-from x v (y ∷ l) p (inr m) = let t = comes-from y v l p.3 m in (t.0, inr t.1, t.2, t.3)
 
   -- f of a slot of the list is in the list, or the slot is the last
   pub goes_to : (x g : ℕ) (l : List ℕ) → Path f s x l → In g (x ∷ l) → In (f g) l ⊎ (g ≡ last x l)
   unfolding last
+  goes_to x g [] p (inr m) = elim m [ ]
   goes_to x g [] p (inl e) = inr e
   goes_to x g (y ∷ l) p (inl e) = inl (inl (ap f e ∙ p.0))
   goes_to x g (y ∷ l) p (inr m) = elim (goes_to y g l p.3 m) [ inl u ↦ inl (inr u) | inr u ↦ inr u ]
@@ -99,7 +102,7 @@ module _ (f g : ℕ → ℕ) (undo : Undoes g f) (s : ℕ) where
       back m =
           let t = comes-from f s y y l p.3 m in
           let e : x ≡ t.0 = sym (undo x (rw p.0 p.1)) ∙ ap g (p.0 ∙ sym t.2) ∙ undo t.0 (rw t.2 t.3) in
-          h (rw e t.1)
+          h (subst (λ (n : ℕ). In n (y ∷ l)) (sym e) t.1)
 
 module _ (f g : ℕ → ℕ) (undo : Undoes g f) (x : ℕ) where
   -- the slots of a walk are distinct
@@ -128,10 +131,12 @@ module _ (f g : ℕ → ℕ) (undo : Undoes g f) (redo : Undoes f g) (x S : ℕ)
   turned e v (inl i) =
       let l : ℕ = last x (following f x S x) in
       let q : f l ≢ FREE = rw e (omega arith) in
-      rw (i ∙ sym e, undo l q) (last_in x (following f x S x))
+      let s : g v ≡ l = ap g (i ∙ sym e) ∙ undo l q in
+      subst (λ (n : ℕ). In n (x ∷ following f x S x)) (sym s) (last_in x (following f x S x))
   turned e v (inr m) =
       let t = comes-from f x x v (following f x S x) (after_path f x S x) m in
-      rw (← t.2, undo t.0 (rw t.2 t.3)) t.1
+      let s : t.0 ≡ g v = sym (undo t.0 (rw t.2 t.3)) ∙ ap g t.2 in
+      subst (λ (n : ℕ). In n (x ∷ following f x S x)) s t.1
 
   -- so it comes to x again
   pub turns-back : f (last x (following f x S x)) ≡ x → g (last x (following g x S x)) ≡ x

@@ -1,2 +1,4 @@
 // Factors: the shifts and cycles of a table, and the walk through one.
+#![tactic(auto)]
+
 pub mod parts;

@@ -1,4 +1,6 @@
 // Job files run and compared: the arguments name a job file and the text that it must give, and so on; prints a line for each.
+#![tactic(auto)]
+
 ghost use Rattle.io.specs.Counts.{IsPrefixLen};
 
 use libc::STDOUT_FILENO;

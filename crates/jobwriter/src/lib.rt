@@ -1,4 +1,6 @@
 // The writer of job files.
+#![tactic(auto)]
+
 ghost use Rattle.jobwriter.specs.Writing.{WriteFile};
 
 use answers::SizeAnswer;

@@ -1,4 +1,6 @@
 // Moves: one move.
+#![tactic(auto)]
+
 ghost use Rattle.moves.specs.Moves.{held, outcome_of, OneMove};
 
 use answers::Answer;

@@ -53,8 +53,8 @@ module _ {racks : List Rack} where
   -- pairs that are allowed and share no end may be carried one after another
   pub pairs_in-turn : {places : List ℕ} {ms : List Pair} → Legal racks places → Pairwise Apart ms → All (Allowed racks places) ms → InTurn racks places ms
   pairs_in-turn l end none = stop
-  pairs_in-turn l (link d p) (more a rest) =
-      next a (pairs_in-turn (legal-moved l (allowed-free a)) p (all_map (λ n h. allowed-kept l a h.0 h.1) (all_both d rest)))
+  pairs_in-turn {places = places} l (link {x = x} d p) (more a rest) =
+      next a (pairs_in-turn {places = moved_places x places} (legal-moved l (allowed-free a)) p (all_map (λ n h. allowed-kept l a h.0 h.1) (all_both d rest)))
 
   -- the first moves of such a list are one
   pub in-turn-take : (k : ℕ) {places : List ℕ} {ms : List Pair} → InTurn racks places ms → InTurn racks places (take k ms)

@@ -1,4 +1,6 @@
 // Cases 2 and 9 through the call of budgeted moves, with the refusals of B and of a table.
+#![tactic(auto)]
+
 use racks::Job;
 use saying::parts::say_left;
 

@@ -1,4 +1,6 @@
 // Paper cards that are not [P]: cases 9 and 10, and refusals of the table check and the slot question.
+#![tactic(auto)]
+
 use racks::Job;
 use saying::parts::say_answer;
 use slots::{Kind, State};

@@ -1,4 +1,6 @@
 // Paper cards for the reader: case 8, case 1, refusals, and a job behind numerals that were read.
+#![tactic(auto)]
+
 use jobfile::Reader;
 
 mod say;

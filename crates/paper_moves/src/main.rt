@@ -1,4 +1,6 @@
 // Case 6 through the call that moves one card, with the refusals of its slots, of a table and of B.
+#![tactic(auto)]
+
 use racks::Job;
 use saying::parts::say_left;
 

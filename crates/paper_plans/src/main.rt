@@ -1,4 +1,6 @@
 // Cases 1, 4 and 5 through the call that plans, with the refusals of its list.
+#![tactic(auto)]
+
 use racks::Job;
 use saying::parts::{say_answer, say_numbers};
 

@@ -7,7 +7,7 @@ use racks::Job;
 // Even: the same place of the next of 4 racks of 1,008. Uneven: 1,023 user slots on, round racks of 1,023 1,023 1,023 963.
 // Transposed: place j of rack i to place i of rack j, of 64 racks of 63; the last rack stays. Spread: user slot 63 i + j to user slot 64 j + i.
 // Swapped: neighbours of one rack of 1,023 change places; the last stays.
-#[derive(Drop)]
+#[derive(Clone, Copy)]
 pub enum Deal {
     Even,
     Uneven,

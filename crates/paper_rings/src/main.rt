@@ -1,4 +1,6 @@
 // Whole runs that fill the limits. Every user slot holds a card at the start, so each holds its own card at the end and the spares are free.
+#![tactic(auto)]
+
 ghost use Rattle.std.specs.Prelude.{◌<◌};
 
 use deal::Deal;

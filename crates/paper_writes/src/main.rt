@@ -1,4 +1,6 @@
 // Paper cards for the writer: cases 1, 3, 9 and 10, numbers of two groups, and refusals. Each file is read back and what was read is written again.
+#![tactic(auto)]
+
 use racks::Job;
 
 mod again;

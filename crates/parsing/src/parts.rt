@@ -16,7 +16,7 @@ use numerals::parts::bounded_numeral;
 use racks::Job;
 
 // What numerals read one after another give: 0 or the number that they are refused with, and the position behind them.
-#[derive(Drop)]
+#[derive(Clone, Copy)]
 pub struct Taken {
     pub number: u8,
     pub next: usize,
@@ -60,7 +60,7 @@ fn read_caps(file: &[u8], at: usize, n: usize, caps: &mut [u16; Job::MAX_RACKS])
 }
 
 // What the front of a file gives: 0 or the number that it is refused with, N, B, and the position behind the capacities.
-#[derive(Drop)]
+#[derive(Clone, Copy)]
 pub struct Head {
     pub number: u8,
     pub racks: usize,
@@ -122,7 +122,7 @@ fn entry_of(x: usize) -> u16
 }
 
 // What the entries of a file give: their refusal, and the position behind them.
-#[derive(Drop)]
+#[derive(Clone, Copy)]
 pub struct TableRead {
     pub refusal: Refusal,
     pub next: usize,

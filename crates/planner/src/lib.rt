@@ -1,4 +1,6 @@
 // Plans: the phase plan.
+#![tactic(auto)]
+
 ghost use Rattle.plans.specs.Plan.{PhasePlan};
 
 use answers::Answer;

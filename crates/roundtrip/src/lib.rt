@@ -1,1 +1,2 @@
 // The reader and the writer of job files undo each other; laws alone.
+#![tactic(auto)]

@@ -1,4 +1,6 @@
 // The whole run.
+#![tactic(auto)]
+
 ghost use Rattle.moves.specs.Moves.{held, outcome_of};
 ghost use Rattle.runs.specs.Run.{WholeRun};
 

@@ -1,5 +1,7 @@
 // Seineflute for callers from C and Rust: every public call with C's calling convention, thin over the layers.
 // The contracts are the layers' own, with the answer read from the numbers that C is given.
+#![tactic(auto)]
+
 ghost use Rattle.tables.specs.Check.{CheckTable};
 ghost use Rattle.plans.specs.Plan.{PhasePlan};
 ghost use Rattle.moves.specs.Moves.{OneMove, held, outcome_of};
@@ -19,7 +21,7 @@ use racks::Job;
 // Every limit and mark, as the library has it: racks, bytes of a card, user slots of a rack and of all racks, slots; a free slot, the hand;
 // bytes of a file that is listed, and bytes that are enough for every text.
 #[repr(C)]
-#[derive(Drop)]
+#[derive(Clone, Copy)]
 pub struct Limits {
     pub racks: usize,
     pub bytes: usize,

@@ -1,4 +1,6 @@
 // shelve: lists the run of the job file on standard input.
+#![tactic(auto)]
+
 ghost use Rattle.std.specs.Prelude.{◌≡◌, ◌≤◌, length, take};
 ghost use Rattle.listing.specs.Listing.{ENOUGH, listing};
 

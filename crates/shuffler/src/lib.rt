@@ -1,4 +1,6 @@
 // The shuffle.
+#![tactic(auto)]
+
 ghost use Rattle.shuffle.specs.Shuffle.{ShuffleCards};
 ghost use Rattle.moves.specs.Moves.{held, outcome_of};
 

@@ -1,4 +1,6 @@
 // The slot question.
+#![tactic(auto)]
+
 ghost use Rattle.slots.specs.Slots.{SlotQuestion};
 
 use answers::Answer;
@@ -7,7 +9,7 @@ use racks::Job;
 pub mod parts;
 
 // Whether a slot is a user slot or a spare; none on a refusal.
-#[derive(Drop)]
+#[derive(Clone, Copy)]
 pub enum Kind {
     User,
     Spare,
@@ -15,7 +17,7 @@ pub enum Kind {
 }
 
 // What stands in a slot: a card that is away comes with its destination's rack; none on a refusal.
-#[derive(Drop)]
+#[derive(Clone, Copy)]
 pub enum State {
     Free,
     Settled,
@@ -24,13 +26,13 @@ pub enum State {
     None,
 }
 
-#[derive(Drop)]
+#[derive(Clone, Copy)]
 pub struct Slot {
     pub kind: Kind,
     pub state: State,
 }
 
-#[derive(Drop)]
+#[derive(Clone, Copy)]
 pub struct SlotAnswer {
     pub answer: Answer,
     pub slot: Slot,

@@ -5,7 +5,7 @@ ghost use Rattle.spans.specs.parts.Spans.{range_of, free_range, behind, lies, Ra
 use racks::Job;
 
 // Numbers from `first` on, `width` of them: the slots of a rack, for the entries of the cards bound for it; or the mark of a free slot alone.
-#[derive(Drop)]
+#[derive(Clone, Copy)]
 pub struct Range {
     pub first: u16,
     pub width: u16,

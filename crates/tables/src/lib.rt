@@ -1,4 +1,6 @@
 // The table check.
+#![tactic(auto)]
+
 ghost use Rattle.tables.specs.Check.{CheckTable};
 
 use answers::Answer;

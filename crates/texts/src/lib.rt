@@ -1,4 +1,6 @@
 // Text in a lent buffer: words and numbers, arrows, the lines of a listing.
+#![tactic(auto)]
+
 pub mod parts;
 
 // The most bytes of a file that is not refused with 18.

@@ -4,7 +4,8 @@ ghost use Rattle.racks.specs.Limits.{SLOTS, SOURCES};
 ghost use Rattle.racks.specs.Table.{dest};
 ghost use Rattle.tables.specs.parts.Tables.{named_slot};
 ghost use Rattle.factors.specs.parts.Chains.{Chained};
-ghost use Rattle.factors.specs.parts.Walks.{COUNTED, LISTED, STRETCH, NoSources, Sources, put_source, stepped, Inside, hand_end, Passed, MarkedOn, MarkedBack, Walked};
+ghost use Rattle.factors.specs.parts.Walks as defined;
+ghost use Rattle.factors.specs.parts.Walks.{NoSources, Sources, put_source, stepped, Inside, hand_end, Passed, MarkedOn, MarkedBack, Walked};
 
 use crate::parts;
 use racks::Job;
@@ -20,14 +21,14 @@ pub const STRETCH: usize = 128;
 
 // The marks of the code are those of the definitions, and so is the stretch.
 pub fn marks_agree()
-    ensures* do_value { do ⌜ COUNTED ≡ (← (⟦COUNTED⟧).entry) ⌝ }
-    ensures* do_value_2 { do ⌜ LISTED ≡ (← (⟦LISTED⟧).entry) ⌝ }
-    ensures* do_value_3 { do ⌜ STRETCH ≡ (← (⟦STRETCH⟧).entry) ⌝ }
+    ensures counted { defined.COUNTED ≡ COUNTED }
+    ensures listed { defined.LISTED ≡ LISTED }
+    ensures stretch { defined.STRETCH ≡ STRETCH }
 {}
 
 // A factor: its first slot, how many slots follow, and on a cycle of two slots or more the slot whose card goes to the hand, else 65,535. One
 // way through it, on or back: its last slot, how many slots were passed, and the entry there.
-#[derive(Drop)]
+#[derive(Clone, Copy)]
 pub struct Walk {
     pub head: usize,
     pub left: usize,

@@ -3,7 +3,8 @@ ghost use Rattle.std.specs.Prelude.{◌≡◌, ◌+◌, ◌≤◌, ◌<◌, set}
 ghost use Rattle.racks.specs.Limits.{SLOTS};
 ghost use Rattle.racks.specs.Job.{racks_of};
 ghost use Rattle.moves.specs.Moves.{held};
-ghost use Rattle.gathering.specs.parts.Gathered.{ENDS, LOG, Closable, RoundClosed, Set, PhasesMade};
+ghost use Rattle.gathering.specs.parts.Gathered as defined;
+ghost use Rattle.gathering.specs.parts.Gathered.{Closable, RoundClosed, Set, PhasesMade};
 
 use answers::Tally;
 use queues::parts::line;
@@ -17,14 +18,14 @@ pub const LOG: usize = 12288;
 
 // The places of the code are those of the definitions.
 pub fn log_agrees()
-    ensures* do_value { do ⌜ ENDS ≡ (← (⟦ENDS⟧).entry) ⌝ }
-    ensures* do_value_2 { do ⌜ LOG ≡ (← (⟦LOG⟧).entry) ⌝ }
+    ensures ends { defined.ENDS ≡ ENDS }
+    ensures log { defined.LOG ≡ LOG }
 {}
 
 // The moves made up to the end of phase j, noted where the log has room for it: none but a listing reads the ends.
 fn note_end(log: &mut [u16], j: usize, moves: usize)
     requires { (j < SLOTS) × (moves ≤ SLOTS) }
-    ensures { log.new ≡ set log.old (ENDS + j) moves }
+    ensures { log.new ≡ set log.old (defined.ENDS + j) moves }
 {
     let k = ENDS + j;
     if k < log.len() {

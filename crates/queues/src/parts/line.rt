@@ -1,6 +1,6 @@
 // The line: what a call keeps of each rack, in one list, each kind of number from a place of its own on.
 ghost use Rattle.std.specs.Prelude.{◌≡◌};
-ghost use Rattle.queues.specs.parts.Line.{QUEUES, HEADS, TAILS, ROOMS, LINE, WAITING};
+ghost use Rattle.queues.specs.parts.Line as defined;
 
 // The queues come first: that of rack p begins at its first slot and p, so that each has one place more than its rack has slots.
 pub const QUEUES: usize = 0;
@@ -22,10 +22,10 @@ pub const WAITING: usize = 65;
 
 // The places of the code are those of the definitions.
 pub fn places_agree()
-    ensures* do_value { do ⌜ QUEUES ≡ (← (⟦QUEUES⟧).entry) ⌝ }
-    ensures* do_value_2 { do ⌜ HEADS ≡ (← (⟦HEADS⟧).entry) ⌝ }
-    ensures* do_value_3 { do ⌜ TAILS ≡ (← (⟦TAILS⟧).entry) ⌝ }
-    ensures* do_value_4 { do ⌜ ROOMS ≡ (← (⟦ROOMS⟧).entry) ⌝ }
-    ensures* do_value_5 { do ⌜ LINE ≡ (← (⟦LINE⟧).entry) ⌝ }
-    ensures* do_value_6 { do ⌜ WAITING ≡ (← (⟦WAITING⟧).entry) ⌝ }
+    ensures queues { defined.QUEUES ≡ QUEUES }
+    ensures heads { defined.HEADS ≡ HEADS }
+    ensures tails { defined.TAILS ≡ TAILS }
+    ensures rooms { defined.ROOMS ≡ ROOMS }
+    ensures line { defined.LINE ≡ LINE }
+    ensures waiting { defined.WAITING ≡ WAITING }
 {}

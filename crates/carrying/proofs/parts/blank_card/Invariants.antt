@@ -1,0 +1,11 @@
+use mathlib.Core.Path.{◌≡◌}
+use Prim.Native.Nat.{◌-◌, ◌≤◌}
+use lib.ListN.{length, take, replicate}
+use lib.Seq.{sets}
+use Rattle.carrying.proofs.parts.blank_card.Given as goal
+
+abbrev pub invariant-loop-i : goal.invariant-loop-i
+invariant-loop-i l = (l.i ≤ l.b) × (length l.cards ≡ length l.initial.cards) × (l.cards ≡ sets l.initial.cards l.start (take l.i (replicate l.b 0)))
+
+abbrev pub decreases-loop-i : goal.decreases-loop-i
+decreases-loop-i l = l.b - l.i

@@ -1,0 +1,45 @@
+use native.Mathlib.Omega.{arith}
+use mathlib.Core.Path.{◌≡◌, sym, ap, ◌∙◌}
+use Prim.Native.Nat.{◌+◌, ◌-◌}
+use Rattle.counting.specs.Tests.{bit}
+use Rattle.counting.proofs.Tests.{bit_le}
+use Rattle.counting.proofs.Count.{count_none, count-more, count_le}
+use Rattle.spans.specs.parts.Spans.{entry_in, entries_in}
+use Rattle.spans.proofs.Spans.{lies-read}
+use Rattle.spans.proofs.parts.count_in.Goals as goal
+use Rattle.spans.proofs.parts.count_in.Goals.{After-one_if-found}
+
+pub loop-j-init : goal.loop-j-init
+loop-j-init c = (omega arith, sym (count_none _))
+
+pub lies-requires : goal.lies-requires
+lies-requires c = c.requires.1
+
+-- whether the entry lies in the range
+hit : (c : After-one_if-found)
+    → c.lies.result ≡ entry_in c.args.places.now c.args.range (c.args.low + c.loop-j.j)
+hit c = c.lies.ensures ∙ lies-read _ _ _ (omega arith)
+
+-- what is added for it
+adds : (c : After-one_if-found)
+    → c.one_if-found.result ≡ bit (entry_in c.args.places.now c.args.range (c.args.low + c.loop-j.j))
+adds c = c.one_if-found.ensures ∙ ap bit (hit c)
+
+pub overflow_add-found : goal.overflow_add-found
+overflow_add-found c =
+    let l = c.loop-j in
+    let s = c.args in
+    omega (arith, bit_le _ (entry_in s.places.now s.range (s.low + l.j)) (adds c), l.invariant.1, count_le l.j (λ i. entry_in s.places.now s.range (s.low + i)))
+
+pub loop-j-preserved : goal.loop-j-preserved
+loop-j-preserved c =
+    let l = c.loop-j in
+    let s = c.args in
+    (omega arith, omega (arith, l.invariant.1, adds c, count-more l.j (λ i. entry_in s.places.now s.range (s.low + i))))
+
+pub returns : goal.returns
+unfolding entries_in
+returns c =
+    let l = c.loop-j in
+    let e : l.j ≡ c.args.n = omega arith in
+    rw e at l.invariant.1
