@@ -1,5 +1,5 @@
 -- The factors of a table: every slot is in one, once; they come by their lowest slot. Assumes nothing.
-use mathlib.Core.Path.{◌≡◌, refl, sym, ap, ◌∙◌}
+use mathlib.Core.Path.{◌≡◌, refl, sym, ap, ◌∙◌, subst}
 use mathlib.Core.Logic.{◌≢◌, ◌⊎◌, inl, inr}
 use mathlib.Core.List.{List, [], ◌∷◌, ◌++◌}
 use Prim.Native.Nat.{ℕ, zero, suc, ◌+◌, ◌≤◌, ◌<◌}
@@ -58,11 +58,12 @@ module _ {places : List ℕ} (ok : Chained places) where
     unfolding factor
     factor-source g q (inr m) =
         let t = comes-from (dest places) (head places k) (head places k) (dest places g) (onward places (head places k)) (onward_path ok (head places k) (head-low ok k low)) m in
-        rw (ok.once g t.0 (sym t.2) q) t.1
+        subst (λ (n : ℕ). In n (head places k ∷ onward places (head places k))) (sym (ok.once g t.0 (sym t.2) q)) t.1
     factor-source g q (inl e) = elim (head-cases ok k low) [
       | inl u ↦
           let w : dest places (last (head places k) (onward places (head places k))) ≡ head places k = rw u.0 u.1 in
-          rw (ok.once g (last (head places k) (onward places (head places k))) (e ∙ sym w) q) (last_in (head places k) (onward places (head places k)))
+          let s : g ≡ last (head places k) (onward places (head places k)) = ok.once g (last (head places k) (onward places (head places k))) (e ∙ sym w) q in
+          subst (λ (n : ℕ). In n (head places k ∷ onward places (head places k))) (sym s) (last_in (head places k) (onward places (head places k)))
       | inr u ↦
           let z : g ≡ FREE = sym (source-dest ok g q) ∙ ap (source places) e ∙ u.1 in
           absurd (omega (arith, dest-has places g q, ok.small))

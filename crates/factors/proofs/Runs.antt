@@ -87,5 +87,5 @@ module _ {A : Type 0} where
       c2 = run (shift x (y ∷ l)) c1
 
       go : (In (f g) (y ∷ l) × ((c : ℕ → A) → run (shift x (y ∷ l)) c (f g) ≡ c g)) ⊎ (g ≡ last y l) → put c2 HAND x (f g) ≡ c g
-      go (inl t) = put_other c2 HAND x (f g) (λ q. n.0 (subst (λ (n : ℕ). In n (y ∷ l)) q t.0)) ∙ t.1 c1 ∙ put_other c (last y l) HAND g (λ q. h (subst (λ (n : ℕ). In n (y ∷ l)) q m))
+      go (inl t) = put_other c2 HAND x (f g) (λ q. n.0 (subst (λ (n : ℕ). In n (y ∷ l)) q t.0)) ∙ t.1 c1 ∙ put_other c (last y l) HAND g (λ q. h (subst (λ (n : ℕ). In n (x ∷ y ∷ l)) q m))
       go (inr q) = put_same c2 HAND x (f g) (ap f q ∙ e) ∙ shift_keeps x HAND (y ∷ l) c1 (λ u. h (inr u)) ∙ put_same c (last y l) HAND HAND refl ∙ ap c (sym q)

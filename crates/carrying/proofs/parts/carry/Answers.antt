@@ -6,7 +6,7 @@ use Rattle.carrying.proofs.Carries.{carry-more, carry-done, tallying-more, tally
 use Rattle.carrying.proofs.parts.carry.Goals as goal
 
 pub loop-i-init : goal.loop-i-init
-loop-i-init c = (omega arith, refl, refl, c.requires.within.1.0, refl, record { counts-fit = omega arith; ends = refl })
+loop-i-init c = (omega arith, refl, refl, c.requires.slots, refl, record { counts-fit = omega arith; ends = refl })
 
 pub overflow_cast-pairs : goal.overflow_cast-pairs
 overflow_cast-pairs c = omega (arith, c.shared_slice_known-in-loop-i-1.given c.loop-i.i)
@@ -16,7 +16,7 @@ overflow_cast-pairs-in-loop-i c = omega (arith, c.shared_slice_known-in-loop-i-2
 
 pub move_card-requires : goal.move_card-requires
 move_card-requires c = let l = c.loop-i in
-    let ends = slots-first c.args.pairs.now l.i c.args.high c.requires.within.0.1 _ (omega arith) l.invariant.3 in
+    let ends = slots-first c.args.pairs.now l.i c.args.high c.requires.within.1 _ (omega arith) l.invariant.3 in
     record {
   sized = cc;
   slots = (omega arith, omega arith);
@@ -27,7 +27,7 @@ add_move-made-requires c = omega (arith, c.loop-i.invariant.5.counts-fit)
 
 pub loop-i-preserved : goal.loop-i-preserved
 loop-i-preserved c = let l = c.loop-i in
-    let fits = c.requires.within.0.1 in
+    let fits = c.requires.within.1 in
     let h : l.i + 2 ≤ c.args.high = omega arith in (
       h,
       omega arith,
@@ -40,6 +40,6 @@ loop-i-preserved c = let l = c.loop-i in
 pub returns : goal.returns
 returns c = let l = c.loop-i in
     record {
-      held-is = carry-done c.args.pairs.now l.i c.args.high c.requires.within.0.1 _ _ _ (omega arith) l.invariant.4;
-      tally-is = tallying-done c.args.pairs.now l.i c.args.high c.requires.within.0.1 l.invariant.5 (omega arith);
+      held-is = carry-done c.args.pairs.now l.i c.args.high c.requires.within.1 _ _ _ (omega arith) l.invariant.4;
+      tally-is = tallying-done c.args.pairs.now l.i c.args.high c.requires.within.1 l.invariant.5 (omega arith);
     }

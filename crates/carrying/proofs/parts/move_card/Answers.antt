@@ -16,4 +16,4 @@ blank_card-requires c =
 pub returns : goal.returns
 returns c =
     let a = c.args in
-    moved-held a.b a.from a.to a.places.now a.cards-1.now _ _ c.requires.slots.0 c.copy_card.ensures c.blank_card.ensures
+    moved-held a.b a.from a.to a.places.now a.cards.now _ _ c.requires.slots.0 c.copy_card.ensures c.blank_card.ensures

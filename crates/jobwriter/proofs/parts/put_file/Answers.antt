@@ -18,11 +18,11 @@ count c = rw (sound-racks _ c.requires.0.sound) at c.put_number-next.ensures
 
 -- and B
 bytes : (c : After-put_number-next-2) → Put (numeral_of (length (racks_of c.args.job)) ++ numeral_of c.args.b) c.args.out.now 0 c.put_number-next-2.new.out c.put_number-next-2.result
-bytes c = put_then (count c) c.put_number-next-2.ensures
+bytes c = put_then ((rw (sound-racks _ c.requires.0.sound) at c.put_number-next.ensures)) c.put_number-next-2.ensures
 
 -- and the m_p
 caps : (c : After-put_caps-next) → Put ((numeral_of (length (racks_of c.args.job)) ++ numeral_of c.args.b) ++ numerals_of (each cap_of (racks_of c.args.job))) c.args.out.now 0 c.put_caps-next.new.out c.put_caps-next.result
-caps c = put_then (bytes c) c.put_caps-next.ensures
+caps c = put_then ((put_then ((rw (sound-racks _ c.requires.0.sound) at c.put_number-next.ensures)) c.put_number-next-2.ensures)) c.put_caps-next.ensures
 
 pub overflow_cast-job : goal.overflow_cast-job
 overflow_cast-job c = omega (arith, sound-count _ c.requires.0.sound)

@@ -33,7 +33,7 @@ pub returns-then-refusal-ne0 : goal.returns-then-refusal-ne0
 unfolding filed_by write_number
 returns-then-refusal-ne0 c =
     let s = c.args in
-    sized-refused (refusal_by s.job s.places.now (write_number s.job s.b s.places.now s.cards.now s.out-1.now)) (file_for (racks_of s.job) s.b s.places.now s.cards.now) s.out-1.now _ _ c.refused-answer.ensures
+    sized-refused (refusal_by s.job s.places.now (write_number s.job s.b s.places.now s.cards.now s.out.now)) (file_for (racks_of s.job) s.b s.places.now s.cards.now) s.out.now _ _ c.refused-answer.ensures
     (kept_by s.job s.places.now _ _ _ c.cards_refusal-refusal.ensures.refusal_is c.if-refusal-ne0.true) c.if-refusal-ne0.true
 
 pub numbers_size-requires : goal.numbers_size-requires
@@ -46,11 +46,11 @@ pub returns-then-out-size : goal.returns-then-out-size
 unfolding filed_by
 returns-then-out-size c =
     let s = c.args in
-    sized-refused (refusal_by s.job s.places.now (write_number s.job s.b s.places.now s.cards.now s.out-1.now)) (file_for (racks_of s.job) s.b s.places.now s.cards.now) s.out-1.now (placeless 19) _ c.of-answer.ensures
-    (write-19 s.job s.b s.places.now s.cards.now s.out-1.now (none (goal.at.returns-then-out-size c).Else-refusal-ne0) _ c.numbers_size.ensures c.if-out-size.true) (λ z. omega arith)
+    sized-refused (refusal_by s.job s.places.now (write_number s.job s.b s.places.now s.cards.now s.out.now)) (file_for (racks_of s.job) s.b s.places.now s.cards.now) s.out.now (placeless 19) _ c.of-answer.ensures
+    (write-19 s.job s.b s.places.now s.cards.now s.out.now (none (goal.at.returns-then-out-size c).Else-refusal-ne0) _ c.numbers_size.ensures c.if-out-size.true) (λ z. omega arith)
 
 pub put_file-requires : goal.put_file-requires
-put_file-requires c = let s = c.args in (writable (opened (goal.at.put_file-requires c).Else-refusal-ne0), some (goal.at.put_file-requires c).Else-refusal-ne0, omega (arith, file-size s.job s.b s.places.now s.cards.now s.out-1.now (none (goal.at.put_file-requires c).Else-refusal-ne0) _ c.numbers_size.ensures, c.if-out-size.false))
+put_file-requires c = let s = c.args in (writable (opened (goal.at.put_file-requires c).Else-refusal-ne0), some (goal.at.put_file-requires c).Else-refusal-ne0, omega (arith, file-size s.job s.b s.places.now s.cards.now s.out.now (none (goal.at.put_file-requires c).Else-refusal-ne0) _ c.numbers_size.ensures, c.if-out-size.false))
 
 pub returns : goal.returns
 unfolding filed_by
@@ -58,6 +58,6 @@ returns c =
     let s = c.args in
     let e = none (goal.at.returns c).Else-refusal-ne0 in
     let n = c.numbers_size.ensures in
-    sized-done (refusal_by s.job s.places.now (write_number s.job s.b s.places.now s.cards.now s.out-1.now)) (file_for (racks_of s.job) s.b s.places.now s.cards.now) s.out-1.now _ _ _ c.of-answer-2.ensures
-    (file-size s.job s.b s.places.now s.cards.now s.out-1.now e _ n) c.put_file.ensures
-    (write-none s.job s.b s.places.now s.cards.now s.out-1.now e _ n (omega (arith, c.if-out-size.false)))
+    sized-done (refusal_by s.job s.places.now (write_number s.job s.b s.places.now s.cards.now s.out.now)) (file_for (racks_of s.job) s.b s.places.now s.cards.now) s.out.now _ _ _ c.of-answer-2.ensures
+    (file-size s.job s.b s.places.now s.cards.now s.out.now e _ n) c.put_file.ensures
+    (write-none s.job s.b s.places.now s.cards.now s.out.now e _ n (omega (arith, c.if-out-size.false)))

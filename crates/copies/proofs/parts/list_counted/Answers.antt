@@ -1,0 +1,26 @@
+use Rattle.copies.proofs.Copied.{fits-room, here-short, here-done}
+use Rattle.factors.proofs.Sourced.{made_none}
+use Rattle.answers.specs.declared.Tally.{Tally}
+use mathlib.Core.Path.{refl, sym, ap, ◌∙◌}
+use Rattle.copies.proofs.parts.list_counted.Goals as goal
+
+pub fill_sources-requires : goal.fill_sources-requires
+fill_sources-requires c = (c.requires.0, made_none _ c.requires.0.small _ refl)
+
+pub write_factors-tally-requires : goal.write_factors-tally-requires
+write_factors-tally-requires c =
+    let r = c.has_room.ensures in (
+      c.requires.0,
+      c.fill_sources.ensures,
+      r.1,
+      fits-room c.args.places.now c.args.lent.now (sym r.0 ∙ c.if-has_room.true),
+      ap (λ (t : Tally). t.copies) c.none-none.ensures,
+    )
+
+pub returns-then-has_room : goal.returns-then-has_room
+returns-then-has_room c =
+    here-done c.args.places.now c.args.lent.now (sym c.has_room.ensures.room ∙ c.if-has_room.true) _ _ _ _ _ _ c.done.ensures c.none-none.ensures c.write_factors-tally.ensures
+
+pub returns : goal.returns
+returns c =
+    here-short c.args.places.now c.args.lent.now (sym c.has_room.ensures.room ∙ c.if-has_room.false) _ c.of.ensures
