@@ -27,7 +27,7 @@ module _ (c : Else-refusal-ne0) where
 
 -- whether a card is away
 away : (c : After-some_away) → c.some_away.result ≡ some_away (racks_of c.args.job) c.args.places.now
-away c = c.some_away.ensures ∙ open-away (opened c)
+away c = c.some_away.ensures ∙ open-away ((c.table_refusal-refusal.ensures.opened c.if-refusal-ne0.false))
 
 pub returns-then-refusal-ne0 : goal.returns-then-refusal-ne0
 unfolding copied_by copy_number

@@ -12,8 +12,8 @@ write_factors-tally-requires c =
     let r = c.has_room.ensures in (
       c.requires.0,
       c.fill_sources.ensures,
-      r.1,
-      fits-room c.args.places.now c.args.lent.now (sym r.0 ∙ c.if-has_room.true),
+      r.marks,
+      fits-room c.args.places.now c.args.lent.now (sym r.room ∙ c.if-has_room.true),
       ap (λ (t : Tally). t.copies) c.none-none.ensures,
     )
 

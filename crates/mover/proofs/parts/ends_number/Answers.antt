@@ -37,17 +37,17 @@ module _ (c : Else-job-to) where
 -- the source has a card, and its destination is a slot
 card : (c : Else-x) → get_or c.args.places.now c.args.from 0 < slots (racks_of c.args.job)
 card c =
-    legal-slot (racks_of c.args.job) c.args.places.now c.requires.legal c.args.from _ (omega (arith, from-lt c, long c)) (from-read c) c.if-x.false
+    legal-slot (racks_of c.args.job) c.args.places.now c.requires.legal c.args.from _ (omega (arith, (omega (arith, sound-slots _ c.requires.sound, c.if-job-from.false)), (c.requires.legal.long))) ((let a = c.args in read-dest a.places.now a.from (omega (arith, (omega (arith, sound-slots _ c.requires.sound, c.if-job-from.false)), (c.requires.legal.long))))) c.if-x.false
 
 -- by its destination too it has one
 held : (c : Else-x) → dest c.args.places.now c.args.from ≡ FREE → ⊥
-held c q = c.if-x.false (from-read c ∙ q)
+held c q = c.if-x.false ((let a = c.args in read-dest a.places.now a.from (omega (arith, (omega (arith, sound-slots _ c.requires.sound, c.if-job-from.false)), (c.requires.legal.long)))) ∙ q)
 
 -- the rack looked up is the one where the card must end
 there : (c : Else-x) → get_or c.args.racking.now (get_or c.args.places.now c.args.from 0) 0
     ≡ rack_to (racks_of c.args.job) c.args.places.now c.args.from
 unfolding rack_to
-there c = c.requires.filled _ (card c) ∙ ap (rack_of (racks_of c.args.job)) (from-read c)
+there c = c.requires.filled _ (card c) ∙ ap (rack_of (racks_of c.args.job)) ((let a = c.args in read-dest a.places.now a.from (omega (arith, (omega (arith, sound-slots _ c.requires.sound, c.if-job-from.false)), (c.requires.legal.long)))))
 
 pub returns-then-job-from : goal.returns-then-job-from
 returns-then-job-from c =
@@ -88,7 +88,7 @@ bounds-racking-to c = omega (arith, to-lt (goal.at.bounds-racking-to c).Else-job
 is-away : (c : Else-racking-from) → rack_of (racks_of c.args.job) c.args.from
     ≡ rack_to (racks_of c.args.job) c.args.places.now c.args.from → ⊥
 is-away c q =
-    c.if-racking-from.false (c.requires.filled _ (from-lt c) ∙ q ∙ sym ((c.requires.filled _ (card c) ∙ ap (rack_of (racks_of c.args.job)) (from-read c))))
+    c.if-racking-from.false (c.requires.filled _ ((omega (arith, sound-slots _ c.requires.sound, c.if-job-from.false))) ∙ q ∙ sym ((c.requires.filled _ (card c) ∙ ap (rack_of (racks_of c.args.job)) ((let a = c.args in read-dest a.places.now a.from (omega (arith, (omega (arith, sound-slots _ c.requires.sound, c.if-job-from.false)), (c.requires.legal.long))))))))
 
 pub returns-then-racking-to : goal.returns-then-racking-to
 returns-then-racking-to c =
@@ -99,7 +99,7 @@ returns-then-racking-to c =
 meets : (c : Else-racking-to) → rack_of (racks_of c.args.job) c.args.to
     ≡ rack_to (racks_of c.args.job) c.args.places.now c.args.from
 meets c =
-    sym (c.requires.filled _ (to-lt c)) ∙ c.if-racking-to.false ∙ (c.requires.filled _ (card c) ∙ ap (rack_of (racks_of c.args.job)) (from-read c))
+    sym (c.requires.filled _ ((omega (arith, sound-slots _ c.requires.sound, c.if-job-to.false)))) ∙ c.if-racking-to.false ∙ (c.requires.filled _ (card c) ∙ ap (rack_of (racks_of c.args.job)) ((let a = c.args in read-dest a.places.now a.from (omega (arith, (omega (arith, sound-slots _ c.requires.sound, c.if-job-from.false)), (c.requires.legal.long))))))
 
 pub offset_bounds-places-to : goal.offset_bounds-places-to
 offset_bounds-places-to c = omega (arith, to-lt (goal.at.offset_bounds-places-to c).Else-job-to, small (goal.at.offset_bounds-places-to c).Else-job-to)
