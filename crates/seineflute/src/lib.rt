@@ -1,5 +1,5 @@
-// Seineflute for callers from C and Rust: every public call with C's calling convention, thin over the layers.
-// The contracts are the layers' own, with the answer read from the numbers that C is given.
+// Seineflute for callers from C and Rust: every public call with the numbers that C is given, thin over the layers.
+// The contracts are the layers' own, with the answer read from those numbers. The crate seineflute_c gives each call C's calling convention.
 #![tactic(auto)]
 
 ghost use Rattle.tables.specs.Check.{CheckTable};
@@ -35,8 +35,7 @@ pub struct Limits {
 }
 
 // Limits and marks.
-#[unsafe(no_mangle)]
-pub extern "C" fn seineflute_limits() -> Limits
+pub fn seineflute_limits() -> Limits
     ensures { LimitsGiven result }
 {
     Limits {
@@ -53,8 +52,7 @@ pub extern "C" fn seineflute_limits() -> Limits
 }
 
 // Table check.
-#[unsafe(no_mangle)]
-pub extern "C" fn seineflute_check_table(caps: &[u16], places: &[u16]) -> Answer
+pub fn seineflute_check_table(caps: &[u16], places: &[u16]) -> Answer
     ensures { CheckTable caps.now places.now (answer_of result) }
 {
     let answer = tables::check_table(caps, places);
@@ -62,8 +60,7 @@ pub extern "C" fn seineflute_check_table(caps: &[u16], places: &[u16]) -> Answer
 }
 
 // Slot question.
-#[unsafe(no_mangle)]
-pub extern "C" fn seineflute_slot_question(caps: &[u16], places: &[u16], slot: usize) -> SlotAnswer
+pub fn seineflute_slot_question(caps: &[u16], places: &[u16], slot: usize) -> SlotAnswer
     ensures { SlotNumbers caps.now places.now slot result }
 {
     let found = slots::slot_question(caps, places, slot);
@@ -71,8 +68,7 @@ pub extern "C" fn seineflute_slot_question(caps: &[u16], places: &[u16], slot: u
 }
 
 // Phase plan.
-#[unsafe(no_mangle)]
-pub extern "C" fn seineflute_phase_plan(caps: &[u16], places: &[u16], lent: &mut [u16]) -> Answer
+pub fn seineflute_phase_plan(caps: &[u16], places: &[u16], lent: &mut [u16]) -> Answer
     ensures { PhasePlan caps.now places.now lent.old (answer_of result) lent.new }
 {
     let answer = planner::phase_plan(caps, places, lent);
@@ -80,8 +76,7 @@ pub extern "C" fn seineflute_phase_plan(caps: &[u16], places: &[u16], lent: &mut
 }
 
 // One move.
-#[unsafe(no_mangle)]
-pub extern "C" fn seineflute_one_move(
+pub fn seineflute_one_move(
     caps: &[u16],
     b: usize,
     places: &mut [u16],
@@ -96,8 +91,7 @@ pub extern "C" fn seineflute_one_move(
 }
 
 // Budgeted moves.
-#[unsafe(no_mangle)]
-pub extern "C" fn seineflute_budgeted_moves(
+pub fn seineflute_budgeted_moves(
     caps: &[u16],
     b: usize,
     places: &mut [u16],
@@ -111,8 +105,7 @@ pub extern "C" fn seineflute_budgeted_moves(
 }
 
 // Copy list.
-#[unsafe(no_mangle)]
-pub extern "C" fn seineflute_copy_list(caps: &[u16], places: &[u16], lent: &mut [u16]) -> Answer
+pub fn seineflute_copy_list(caps: &[u16], places: &[u16], lent: &mut [u16]) -> Answer
     ensures { CopyList caps.now places.now lent.old (answer_of result) lent.new }
 {
     let answer = copies::copy_list(caps, places, lent);
@@ -120,8 +113,7 @@ pub extern "C" fn seineflute_copy_list(caps: &[u16], places: &[u16], lent: &mut 
 }
 
 // Shuffle.
-#[unsafe(no_mangle)]
-pub extern "C" fn seineflute_shuffle_cards(
+pub fn seineflute_shuffle_cards(
     caps: &[u16],
     b: usize,
     places: &mut [u16],
@@ -134,13 +126,7 @@ pub extern "C" fn seineflute_shuffle_cards(
 }
 
 // Whole run.
-#[unsafe(no_mangle)]
-pub extern "C" fn seineflute_whole_run(
-    caps: &[u16],
-    b: usize,
-    places: &mut [u16],
-    cards: &mut [u8],
-) -> Answer
+pub fn seineflute_whole_run(caps: &[u16], b: usize, places: &mut [u16], cards: &mut [u8]) -> Answer
     ensures { WholeRun caps.now b (held places.old cards.old) (outcome_of (answer_of result) places.new cards.new) }
 {
     let answer = runner::whole_run(caps, b, places, cards);
@@ -148,12 +134,7 @@ pub extern "C" fn seineflute_whole_run(
 }
 
 // Job file. A struct with a reference has no form in C, so the caller takes the card bytes from their start on.
-#[unsafe(no_mangle)]
-pub extern "C" fn seineflute_read_file(
-    file: &[u8],
-    caps: &mut [u16],
-    places: &mut [u16],
-) -> FileAnswer
+pub fn seineflute_read_file(file: &[u8], caps: &mut [u16], places: &mut [u16]) -> FileAnswer
     ensures { ReadFile file.now caps.old places.old (file_of result) caps.new places.new }
 {
     let found = jobfile::read_file(file, caps, places);
@@ -161,8 +142,7 @@ pub extern "C" fn seineflute_read_file(
 }
 
 // Write file.
-#[unsafe(no_mangle)]
-pub extern "C" fn seineflute_write_file(
+pub fn seineflute_write_file(
     caps: &[u16],
     b: usize,
     places: &[u16],
@@ -176,8 +156,7 @@ pub extern "C" fn seineflute_write_file(
 }
 
 // The listing.
-#[unsafe(no_mangle)]
-pub extern "C" fn seineflute_list_job(file: &[u8], out: &mut [u8]) -> SizeAnswer
+pub fn seineflute_list_job(file: &[u8], out: &mut [u8]) -> SizeAnswer
     ensures { ListJob file.now out.old (size_of result) out.new }
 {
     let found = listing::list_job(file, out);
