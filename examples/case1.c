@@ -3,7 +3,7 @@
  * it, prints the number, the counts, the table and the cards, and then the listing of the file. At last
  * it makes an entry of the table wrong, in two ways, and prints the refusals, which say that entry.
  *
- *     rt staticlib seineflute
+ *     ./staticlib
  *     cc -std=c99 -Wall -Wextra -Iinclude examples/case1.c target/staticlib/libseineflute.a -o target/case1
  *     target/case1
  *

@@ -1,10 +1,9 @@
 /*
  * Seineflute moves claim cards between racks without ever losing one.
  *
- * Plain C99, for 64-bit Linux on x86-64. Link target/staticlib/libseineflute.a, which
- * `rt staticlib seineflute` makes. It needs nothing but memcpy and memset, keeps nothing between
- * calls, allocates nothing, and may be called from many threads at once with different lists.
- * examples/case1.c is a whole program.
+ * Plain C99, for 64-bit Linux on x86-64. Link target/staticlib/libseineflute.a, which ./staticlib
+ * makes. It needs nothing but memcpy and memset, keeps nothing between calls, allocates nothing, and
+ * may be called from many threads at once with different lists. examples/case1.c is a whole program.
  *
  * Racks, slots, tables
  *

@@ -15,7 +15,7 @@ fn main() {
     println!("cargo:rerun-if-changed={}", archive.display());
     if !archive.is_file() {
         eprintln!("{} is missing.", archive.display());
-        eprintln!("Make it with `rt staticlib seineflute` in the repository's root,");
+        eprintln!("Make it with `./staticlib` in the repository's root,");
         eprintln!("or set SEINEFLUTE_LIB to the folder that has libseineflute.a.");
         exit(1);
     }
