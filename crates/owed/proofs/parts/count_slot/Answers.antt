@@ -1,0 +1,44 @@
+use native.Mathlib.Omega.{arith}
+use mathlib.Core.Bool.{not}
+use Prim.Native.Nat.{◌<◌}
+use lib.Dec.{eqb}
+use lib.ListN.{get_or}
+use Rattle.counting.proofs.Tests.{bit_le}
+use Rattle.owed.specs.parts.Owed.{cell}
+use Rattle.tables.proofs.Targets.{aim-small, aim-racked}
+use Rattle.owed.proofs.Owed.{slot-cell, counted-slot}
+use Rattle.owed.proofs.parts.count_slot.Goals as goal
+use Rattle.owed.proofs.parts.count_slot.Goals.{After-to-1}
+
+-- the count of what the one rack owes the other is in the table
+at : (c : After-to-1) → cell (get_or c.args.racking.now c.args.g 0) (get_or c.args.racking.now c.named_slot.result 0) < 4096
+at c = slot-cell _ _ _ _ c.named_slot.ensures _ c.requires
+
+pub bounds-racking-named_slot : goal.bounds-racking-named_slot
+bounds-racking-named_slot c = aim-small _ _ _ c.requires.aims _ c.named_slot.ensures
+
+pub overflow_cast-to : goal.overflow_cast-to
+overflow_cast-to c = omega (arith, aim-racked _ _ _ c.requires.aims _ c.named_slot.ensures)
+
+pub overflow_add-k : goal.overflow_add-k
+overflow_add-k c = omega (arith, at c)
+
+pub offset_bounds-owes-k : goal.offset_bounds-owes-k
+offset_bounds-owes-k c = omega (arith, at c)
+
+pub bounds-owes-k : goal.bounds-owes-k
+bounds-owes-k c = omega (arith, at (goal.at.bounds-owes-k c).After-to-1)
+
+pub overflow_add-owes : goal.overflow_add-owes
+overflow_add-owes c = let from = get_or c.args.racking.now c.args.g 0 in
+    let to = get_or c.args.racking.now c.named_slot.result 0 in
+    omega (arith, c.requires.owed-fit (cell from to), bit_le _ (not (eqb from to)) c.one_if.ensures)
+
+pub offset_bounds-owes-k-2 : goal.offset_bounds-owes-k-2
+offset_bounds-owes-k-2 c = omega (arith, at (goal.at.offset_bounds-owes-k-2 c).After-to-1)
+
+pub bounds-owes-k-2 : goal.bounds-owes-k-2
+bounds-owes-k-2 c = omega (arith, at (goal.at.bounds-owes-k-2 c).After-to-1)
+
+pub returns : goal.returns
+returns c = counted-slot _ _ _ _ c.named_slot.ensures _ c.requires _ c.one_if.ensures
