@@ -37,17 +37,25 @@ module _ (c : Else-job-to) where
 -- the source has a card, and its destination is a slot
 card : (c : Else-x) → get_or c.args.places.now c.args.from 0 < slots (racks_of c.args.job)
 card c =
-    legal-slot (racks_of c.args.job) c.args.places.now c.requires.legal c.args.from _ (omega (arith, (omega (arith, sound-slots _ c.requires.sound, c.if-job-from.false)), (c.requires.legal.long))) ((let a = c.args in read-dest a.places.now a.from (omega (arith, (omega (arith, sound-slots _ c.requires.sound, c.if-job-from.false)), (c.requires.legal.long))))) c.if-x.false
+    let from-lt : c.args.from < slots (racks_of c.args.job) = omega (arith, sound-slots _ c.requires.sound, c.if-job-from.false) in
+    let from-read = read-dest c.args.places.now c.args.from (omega (arith, from-lt, c.requires.legal.long)) in
+    legal-slot (racks_of c.args.job) c.args.places.now c.requires.legal c.args.from _ (omega (arith, from-lt, c.requires.legal.long)) from-read c.if-x.false
 
 -- by its destination too it has one
 held : (c : Else-x) → dest c.args.places.now c.args.from ≡ FREE → ⊥
-held c q = c.if-x.false ((let a = c.args in read-dest a.places.now a.from (omega (arith, (omega (arith, sound-slots _ c.requires.sound, c.if-job-from.false)), (c.requires.legal.long)))) ∙ q)
+held c q =
+    let from-lt : c.args.from < slots (racks_of c.args.job) = omega (arith, sound-slots _ c.requires.sound, c.if-job-from.false) in
+    let from-read = read-dest c.args.places.now c.args.from (omega (arith, from-lt, c.requires.legal.long)) in
+    c.if-x.false (from-read ∙ q)
 
 -- the rack looked up is the one where the card must end
 there : (c : Else-x) → get_or c.args.racking.now (get_or c.args.places.now c.args.from 0) 0
     ≡ rack_to (racks_of c.args.job) c.args.places.now c.args.from
 unfolding rack_to
-there c = c.requires.filled _ (card c) ∙ ap (rack_of (racks_of c.args.job)) ((let a = c.args in read-dest a.places.now a.from (omega (arith, (omega (arith, sound-slots _ c.requires.sound, c.if-job-from.false)), (c.requires.legal.long)))))
+there c =
+    let from-lt : c.args.from < slots (racks_of c.args.job) = omega (arith, sound-slots _ c.requires.sound, c.if-job-from.false) in
+    let from-read = read-dest c.args.places.now c.args.from (omega (arith, from-lt, c.requires.legal.long)) in
+    c.requires.filled _ (card c) ∙ ap (rack_of (racks_of c.args.job)) from-read
 
 pub returns-then-job-from : goal.returns-then-job-from
 returns-then-job-from c =
@@ -85,21 +93,21 @@ pub bounds-racking-to : goal.bounds-racking-to
 bounds-racking-to c = omega (arith, to-lt (goal.at.bounds-racking-to c).Else-job-to, small (goal.at.bounds-racking-to c).Else-job-to)
 
 -- the card is away: its destination is on another rack than its slot
-is-away : (c : Else-racking-from) → rack_of (racks_of c.args.job) c.args.from
-    ≡ rack_to (racks_of c.args.job) c.args.places.now c.args.from → ⊥
-is-away c q =
-    c.if-racking-from.false (c.requires.filled _ ((omega (arith, sound-slots _ c.requires.sound, c.if-job-from.false))) ∙ q ∙ sym ((c.requires.filled _ (card c) ∙ ap (rack_of (racks_of c.args.job)) ((let a = c.args in read-dest a.places.now a.from (omega (arith, (omega (arith, sound-slots _ c.requires.sound, c.if-job-from.false)), (c.requires.legal.long))))))))
+is-away : (c : Else-racking-from) → get_or c.args.racking.now (get_or c.args.places.now c.args.from 0) 0 ≡ rack_to (racks_of c.args.job) c.args.places.now c.args.from
+    → c.args.from < slots (racks_of c.args.job) → rack_of (racks_of c.args.job) c.args.from ≡ rack_to (racks_of c.args.job) c.args.places.now c.args.from → ⊥
+is-away c there low q = c.if-racking-from.false (c.requires.filled _ low ∙ q ∙ sym there)
 
 pub returns-then-racking-to : goal.returns-then-racking-to
 returns-then-racking-to c =
-    ends-10 (racks_of c.args.job) c.args.places.now (c.args.from, c.args.to) (from-lt (goal.at.returns-then-racking-to c).Else-job-to) (to-lt (goal.at.returns-then-racking-to c).Else-job-to) (held (goal.at.returns-then-racking-to c).Else-x) (is-away (goal.at.returns-then-racking-to c).Else-racking-from)
+    ends-10 (racks_of c.args.job) c.args.places.now (c.args.from, c.args.to) (from-lt (goal.at.returns-then-racking-to c).Else-job-to) (to-lt (goal.at.returns-then-racking-to c).Else-job-to) (held (goal.at.returns-then-racking-to c).Else-x) (is-away (goal.at.returns-then-racking-to c).Else-racking-from (there (goal.at.returns-then-racking-to c).Else-x) (from-lt (goal.at.returns-then-racking-to c).Else-job-to))
     (λ q. c.if-racking-to.true (c.requires.filled _ (to-lt (goal.at.returns-then-racking-to c).Else-job-to) ∙ q ∙ sym (there (goal.at.returns-then-racking-to c).Else-x)))
 
 -- the target is on the card's destination rack
-meets : (c : Else-racking-to) → rack_of (racks_of c.args.job) c.args.to
-    ≡ rack_to (racks_of c.args.job) c.args.places.now c.args.from
-meets c =
-    sym (c.requires.filled _ ((omega (arith, sound-slots _ c.requires.sound, c.if-job-to.false)))) ∙ c.if-racking-to.false ∙ (c.requires.filled _ (card c) ∙ ap (rack_of (racks_of c.args.job)) ((let a = c.args in read-dest a.places.now a.from (omega (arith, (omega (arith, sound-slots _ c.requires.sound, c.if-job-from.false)), (c.requires.legal.long))))))
+meets : (c : Else-racking-to) → get_or c.args.racking.now (get_or c.args.places.now c.args.from 0) 0 ≡ rack_to (racks_of c.args.job) c.args.places.now c.args.from
+    → rack_of (racks_of c.args.job) c.args.to ≡ rack_to (racks_of c.args.job) c.args.places.now c.args.from
+meets c there =
+    let to-lt : c.args.to < slots (racks_of c.args.job) = omega (arith, sound-slots _ c.requires.sound, c.if-job-to.false) in
+    sym (c.requires.filled _ to-lt) ∙ c.if-racking-to.false ∙ there
 
 pub offset_bounds-places-to : goal.offset_bounds-places-to
 offset_bounds-places-to c = omega (arith, to-lt (goal.at.offset_bounds-places-to c).Else-job-to, small (goal.at.offset_bounds-places-to c).Else-job-to)
@@ -109,8 +117,8 @@ bounds-places-to c = omega (arith, to-lt (goal.at.bounds-places-to c).Else-job-t
 
 pub returns-then-places-to : goal.returns-then-places-to
 returns-then-places-to c =
-    ends-11 (racks_of c.args.job) c.args.places.now (c.args.from, c.args.to) (from-lt (goal.at.returns-then-places-to c).Else-job-to) (to-lt (goal.at.returns-then-places-to c).Else-job-to) (held (goal.at.returns-then-places-to c).Else-x) (is-away (goal.at.returns-then-places-to c).Else-racking-from) (meets (goal.at.returns-then-places-to c).Else-racking-to) (λ q. c.if-places-to.true (to_read (goal.at.returns-then-places-to c).Else-job-to ∙ q))
+    ends-11 (racks_of c.args.job) c.args.places.now (c.args.from, c.args.to) (from-lt (goal.at.returns-then-places-to c).Else-job-to) (to-lt (goal.at.returns-then-places-to c).Else-job-to) (held (goal.at.returns-then-places-to c).Else-x) (is-away (goal.at.returns-then-places-to c).Else-racking-from (there (goal.at.returns-then-places-to c).Else-x) (from-lt (goal.at.returns-then-places-to c).Else-job-to)) (meets (goal.at.returns-then-places-to c).Else-racking-to (there (goal.at.returns-then-places-to c).Else-x)) (λ q. c.if-places-to.true (to_read (goal.at.returns-then-places-to c).Else-job-to ∙ q))
 
 pub returns : goal.returns
 returns c =
-    ends-0 (racks_of c.args.job) c.args.places.now (c.args.from, c.args.to) (from-lt (goal.at.returns c).Else-job-to) (to-lt (goal.at.returns c).Else-job-to) (held (goal.at.returns c).Else-x) (is-away (goal.at.returns c).Else-racking-from) (meets (goal.at.returns c).Else-racking-to) (sym (to_read (goal.at.returns c).Else-job-to) ∙ c.if-places-to.false)
+    ends-0 (racks_of c.args.job) c.args.places.now (c.args.from, c.args.to) (from-lt (goal.at.returns c).Else-job-to) (to-lt (goal.at.returns c).Else-job-to) (held (goal.at.returns c).Else-x) (is-away (goal.at.returns c).Else-racking-from (there (goal.at.returns c).Else-x) (from-lt (goal.at.returns c).Else-job-to)) (meets (goal.at.returns c).Else-racking-to (there (goal.at.returns c).Else-x)) (sym (to_read (goal.at.returns c).Else-job-to) ∙ c.if-places-to.false)
