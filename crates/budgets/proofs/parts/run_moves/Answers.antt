@@ -23,9 +23,9 @@ loop-tally-preserved c = let i = c.loop-tally.invariant in
     let l = c.loop-tally-test.true in
     let r = c.run_phase-tally.ensures in
     let k = c.run_phase-tally.auto in (
-      omega (arith, k.1.1.1.1.0, i.0),
-      omega (arith, k.1.1.1.1.1.0, i.1),
-      omega (arith, k.1.1.1.1.1.1.1.1.1.0, i.2),
+      omega (arith, k.places, i.0),
+      omega (arith, k.cards, i.1),
+      omega (arith, k.log, i.2),
       moves-only i.4 (going-fixed c.requires) l r i.3,
       turn-next i.4 (going-fixed c.requires) l r (turn-waits i.4 l c.if-bits-eq0.false),
     )
