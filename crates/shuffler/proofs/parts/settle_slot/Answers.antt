@@ -1,0 +1,8 @@
+use mathlib.Core.Path.{refl, ap}
+use lib.ListN.{set}
+use Prim.Native.Nat.{ℕ, ◌+◌}
+use Rattle.shuffler.proofs.parts.settle_slot.Goals as goal
+
+pub returns : goal.returns
+returns c =
+    record { entry = ap (set c.args.places.now c.args.d) c.entry_by.ensures; slot = refl; count-is = ap (λ (m : ℕ). c.args.n + m) c.one_if.ensures }
