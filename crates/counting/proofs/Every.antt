@@ -1,5 +1,6 @@
 -- Every member of a list meets P; every two members of a list, in their order, meet R. Assumes nothing.
-use mathlib.Core.List.{List, ◌++◌}
+use mathlib.Core.Path.{◌≡◌, refl}
+use mathlib.Core.List.{List, [], ◌++◌}
 use Prim.Native.Nat.{ℕ, zero, suc}
 use lib.ListN.{take}
 use Rattle.counting.specs.Every.{All, Pairwise}
@@ -23,6 +24,11 @@ module _ {A : Type 0} {P : A → Type 0} where
   all_take zero h = none
   all_take (suc n) none = none
   all_take (suc n) (more p r) = more p (all_take n r)
+
+  -- where nothing meets P, a list of such members is empty
+  pub all_none : {a : List A} → ((x : A) → P x → ⊥) → All P a → a ≡ []
+  all_none h none = refl
+  all_none h (more {x} p r) = absurd (h x p)
 
 module _ {A : Type 0} {R : A → A → Type 0} where
   pub pairwise_append : {a b : List A} → Pairwise R a → Pairwise R b → All (λ x. All (R x) b) a → Pairwise R (a ++ b)

@@ -55,3 +55,15 @@ least_kept n f e =
 -- else the new one, where it passes
 pub least-new : (n : ℕ) (f : ℕ → Bool) → some n f ≡ false → f n ≡ true → least (n + 1) f ≡ n
 least-new n f e t = least-is (n + 1) f n (omega arith) t (some-off n f e)
+
+-- where none passes, n
+pub least-none : (n : ℕ) (f : ℕ → Bool) → ((k : ℕ) → k < n → f k ≡ false) → least n f ≡ n
+unfolding least
+least-none zero f h = refl
+least-none (suc n) f h = rw (h 0 (omega arith), least-none n (λ k. f (suc k)) (λ k l. h (suc k) (omega arith)))
+
+-- it is no more than n
+pub least_le : (n : ℕ) (f : ℕ → Bool) → least n f ≤ n
+unfolding least
+least_le zero f = omega arith
+least_le (suc n) f = by-test (f 0) (λ e. rw e (omega arith)) (λ e. rw e (omega (arith, least_le n (λ k. f (suc k)))))

@@ -95,3 +95,10 @@ from_mono low n m f l = omega (arith, ap length (from_longer low n m f l), lengt
 -- and the longer one begins with it
 pub from_front : (low n m k : ℕ) (f : ℕ → Bool) → n ≤ m → k ≤ length (select_from low n f) → take k (select_from low m f) ≡ take k (select_from low n f)
 from_front low n m k f l h = ap (take k) (from_longer low n m f l) ∙ take-append-le k (select_from low n f) (select_from (low + n) (m - n) f) h
+
+-- where nothing passes before low + x, the span may begin there
+pub from_skip : (low n x : ℕ) (f : ℕ → Bool) → x ≤ n → ((j : ℕ) → j < x → f (low + j) ≡ false) → select_from low n f ≡ select_from (low + x) (n - x) f
+from_skip low n x f l h =
+    let e : n ≡ x + (n - x) = omega arith in
+    let q : (k : ℕ) → low ≤ k → k < low + x → f k ≡ false = λ k m m'. let d : low + (k - low) ≡ k = omega arith in rw d at (h (k - low) (omega arith)) in
+    ap (λ (m : ℕ). select_from low m f) e ∙ from-split low x (n - x) f ∙ rw (from-none low x f q)

@@ -16,7 +16,7 @@ use Rattle.racks.specs.Racks.{Rack, slots, rack_of}
 use Rattle.racks.specs.Table.{dest, rack_to, away, bound, owes}
 use Rattle.racks.specs.parts.Legal.{Legal}
 use Rattle.racks.proofs.Away.{away-held, to-away, to-rack, to_is, bound-on, bound-off}
-use Rattle.tables.specs.parts.Tables.{named_slot, target, away_by, Filled}
+use Rattle.tables.specs.parts.Tables.{named_slot, target, away_by, Aimed, Filled}
 use Rattle.tables.proofs.Targets.{at_target, at-away, aim-is, aim-racked, here_lt, target_is, target_lt, away_by_lem, aimed}
 use Rattle.queues.specs.parts.Line.{Blank}
 use Rattle.queues.proofs.Counts.{more_by, one-count, one-few, one-long}
@@ -24,12 +24,16 @@ use Rattle.owed.specs.parts.Owed.{cell, Owed, owes_with, Countable}
 
 -- n is the slot that slot g's entry names, as the code reads it
 module _ (places racking : List ℕ) (g n : ℕ) (en : n ≡ named_slot g (get_or places g 0)) (owed : List ℕ) (q : Countable places racking g owed) where
+  -- it can be looked at
+  pub aims : Aimed racking places g
+  aims = record { slot = q.slot; small = q.small; rack = q.rack; named = q.named; racked = q.racked }
+
   aim : n ≡ named_slot g (dest places g)
-  aim = aim-is racking places g q.aims n en
+  aim = aim-is racking places g aims n en
 
   -- the counts have a place for the two racks
   pub slot-cell : cell (get_or racking g 0) (get_or racking n 0) < 4096
-  slot-cell = omega (arith, q.aims.rack, aim-racked racking places g q.aims n en)
+  slot-cell = omega (arith, q.rack, aim-racked racking places g aims n en)
 
   -- the count is stored, with 0 or 1 added
   pub counted-slot : (x : ℕ) → x ≡ bit (not (eqb (get_or racking g 0) (get_or racking n 0)))
@@ -71,8 +75,13 @@ module _ (racks : List Rack) (places : List ℕ) where
     -- it can be counted
     pub countable : Countable places racking g owed
     countable =
+        let a = aimed racks places racking v filled g l small few in
         record {
-          aims = aimed racks places racking v filled g l small few;
+          slot = a.slot;
+          small = a.small;
+          rack = a.rack;
+          named = a.named;
+          racked = a.racked;
           owed-long = c.owed-long;
           owed-fit = λ k. omega (arith, c.owed-few k);
         }

@@ -1,1 +1,3 @@
+pub mod Targets
+pub mod Pairs
 pub mod Planned

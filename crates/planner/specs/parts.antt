@@ -1,1 +1,2 @@
+pub mod Targets
 pub mod Planned

@@ -1,55 +1,80 @@
 // What the phase plan puts together.
 ghost use Rattle.std.specs.Prelude.{◌≡◌, ◌*◌, ◌≤◌, length};
-ghost use Rattle.std.proofs.lemmas.List.Edits.{sets};
-ghost use Rattle.counting.specs.Lists.{flat};
 ghost use Rattle.answers.specs.Answers.{listed_of};
-ghost use Rattle.racks.specs.Limits.{SLOTS};
 ghost use Rattle.racks.specs.Job.{racks_of, Sound, Fit};
 ghost use Rattle.racks.specs.parts.Legal.{Legal};
 ghost use Rattle.plans.specs.Plan.{plan};
-ghost use Rattle.shares.specs.parts.Shares.{Shared};
+ghost use Rattle.planner.specs.parts.Targets.{Covers, PairsPut};
 ghost use Rattle.planner.specs.parts.Planned.{planned_by};
 
 use answers::{Answer, Tally};
 use racks::Job;
+use spans::parts::Range;
 
-// The pairs of the plan of a legal table, by each target's share, from the front of the list. The bytes that are lent take each slot's rack.
-fn write_plan(
-    job: Job,
-    places: &[u16],
-    bytes: &mut [u8],
-    nexts: &mut [u16; Job::MAX_RACKS],
-    stops: &[u16; Job::MAX_RACKS],
-    lent: &mut [u16],
-    pairs: usize,
-)
-    requires sound { Sound job × Legal (racks_of job) places.now × (SLOTS ≤ length bytes.old) }
-    requires shared { Shared (racks_of job) places.now nexts.old stops.now pairs × (2 * pairs ≤ length lent.old) }
-    ensures { lent.new ≡ sets lent.old 0 (flat (plan (racks_of job) places.now)) }
+pub mod targets;
+
+// How many pairs the plan of a legal table has.
+pub fn count_pairs(job: Job, places: &[u16]) -> usize
+    requires { Sound job × Legal (racks_of job) places.now }
+    ensures { result ≡ length (plan (racks_of job) places.now) }
 {
-    tables::parts::fill_racking(job, bytes);
-    shares::parts::cards::grant_cards(job, places, bytes, nexts, stops, lent, pairs);
-    shares::parts::openings::put_openings(job, places, stops, lent);
+    let mut pairs: usize = 0;
+    let mut low: u16 = 0;
+    let mut p: usize = 0;
+    while p < job.racks {
+        let high = job.ends[p];
+        pairs = pairs + targets::count_target(places, low, high);
+        low = high;
+        p = p + 1;
+    }
+    pairs
 }
 
-// The phase plan, by the job. One array of bytes serves twice, since the stack is small: as the marks of the check, and then for each slot's
-// rack.
+// A number that the pairs of the plan of a legal table do not exceed, and theirs exactly where a list of `room` numbers is too short for that
+// many pairs. A plan has no more pairs than there are free slots, so only for a list that has no room for as many the pairs are counted.
+pub fn most_pairs(job: Job, places: &[u16], room: usize) -> usize
+    requires { Sound job × Legal (racks_of job) places.now }
+    ensures { Covers (length (plan (racks_of job) places.now)) room result }
+{
+    let free = spans::parts::look(places, 0, job.slots as u16, Range::free());
+    let most = free.count as usize;
+    if 2 * most <= room {
+        return most;
+    }
+    count_pairs(job, places)
+}
+
+// The pairs of the plan of a legal table, which are no more than `most`, from the front of the list; how many they are.
+pub fn write_plan(job: Job, places: &[u16], lent: &mut [u16], most: usize) -> usize
+    requires { Sound job × Legal (racks_of job) places.now × (length (plan (racks_of job) places.now) ≤ most) × (2 * most ≤ length lent.old) }
+    ensures { PairsPut lent.old 0 (plan (racks_of job) places.now) result lent.new }
+{
+    let mut pairs: usize = 0;
+    let mut low: u16 = 0;
+    let mut p: usize = 0;
+    while p < job.racks {
+        let high = job.ends[p];
+        pairs = targets::put_target(places, low, high, lent, pairs, most);
+        low = high;
+        p = p + 1;
+    }
+    pairs
+}
+
+// The phase plan, by the job.
 pub fn plan_job(job: Job, places: &[u16], lent: &mut [u16]) -> Answer
     requires { Fit job }
     ensures { listed_of result lent.new ≡ planned_by job places.now lent.old }
 {
-    let mut bytes = [1u8; Job::MARKS];
-    let refusal = tables::parts::marks_refusal(job, places, &mut bytes);
+    let refusal = tables::parts::places_refusal(job, places);
     if refusal.number != 0 {
         return Answer::refused(refusal);
     }
-    let mut nexts = [0u16; Job::MAX_RACKS];
-    let mut stops = [0u16; Job::MAX_RACKS];
-    let pairs = shares::parts::targets::share_out(job, places, &mut nexts, &mut stops);
-    if lent.len() < 2 * pairs {
+    let most = most_pairs(job, places, lent.len());
+    if lent.len() < 2 * most {
         return Answer::of(13);
     }
-    write_plan(job, places, &mut bytes, &mut nexts, &stops, lent, pairs);
-    let tally = Tally::of_moves(pairs);
+    let written = write_plan(job, places, lent, most);
+    let tally = Tally::of_moves(written);
     Answer::done(tally)
 }

@@ -5,6 +5,7 @@ use mathlib.Core.List.{List}
 use Prim.Native.Nat.{ℕ, suc, ◌≤◌, ◌<◌}
 use native.Mathlib.Omega.{arith}
 use lib.ListN.{length}
+use Rattle.counting.specs.Count.{count}
 use Rattle.counting.specs.Lists.{Pair}
 use Rattle.counting.proofs.Count.{count-pos, count_le}
 use Rattle.counting.specs.Every.{All, Pairwise}
@@ -13,7 +14,7 @@ use Rattle.counting.proofs.Select.{Hit, all-select, select_ascends, sum_mono, su
 use Rattle.counting.proofs.Lists.{length-join, all_join, pairwise-join}
 use Rattle.counting.proofs.Pairs.{all-pair_up, pairwise-pair_up}
 use Rattle.racks.specs.Racks.{Rack, slots}
-use Rattle.racks.specs.Table.{rack_to, away, aways, away_to, free_on}
+use Rattle.racks.specs.Table.{free, rack_to, away, aways, away_to, free_on}
 use Rattle.racks.proofs.Geometry.{rack_lt}
 use Rattle.racks.proofs.Away.{to-away, to-rack, to_is, on-free, on-rack, on-is}
 use Rattle.plans.specs.Plan.{open_slots, room, plan_for, plan}
@@ -76,6 +77,12 @@ module _ (racks : List Rack) (places : List ℕ) where
   plan-aways =
       apart-few (λ (m : Pair). m.0) (slots racks) (away racks places) (all_map (λ m o. (o.from_lt, o.is-away)) plan-allowed)
       (pairwise_map (λ m n a. a.0) plan-apart)
+
+  -- nor than there are free slots
+  pub plan-free : length (plan racks places) ≤ count (slots racks) (free places)
+  plan-free =
+      apart-few (λ (m : Pair). m.1) (slots racks) (free places) (all_map (λ m o. (o.to_lt, o.is_free)) plan-allowed)
+      (pairwise_map (λ m n a. a.1) plan-apart)
 
   -- so no more than there are slots
   pub plan-few : length (plan racks places) ≤ slots racks

@@ -1,7 +1,7 @@
 -- Theorem 2: while a card is away a move is allowed, and the plan has a pair. Assumes nothing.
 use mathlib.Core.Path.{◌≡◌, refl, sym}
 use mathlib.Core.Bool.{Bool, true, false}
-use mathlib.Core.List.{List}
+use mathlib.Core.List.{List, []}
 use Prim.Native.Nat.{ℕ, ◌<◌}
 use native.Mathlib.Omega.{arith}
 use native.Mathlib.Decide.{ℕ_discrete}
@@ -11,16 +11,18 @@ use Rattle.counting.specs.Count.{some}
 use Rattle.counting.specs.Lists.{Pair}
 use Rattle.counting.proofs.Tests.{off, no_way, both, and_l, and_r, and-off_r}
 use Rattle.counting.proofs.Count.{count_strict, pigeonhole, here, nowhere, find}
-use Rattle.counting.proofs.Some.{some-hit, some-found}
+use Rattle.counting.proofs.Some.{some-hit, some-off, some-found}
+use Rattle.counting.proofs.Every.{all_none}
 use Rattle.racks.specs.Racks.{Rack, slots, rack_of, spare_of, is_user}
 use Rattle.racks.specs.Table.{dest, free, rack_to, away, away_to, free_on}
+use Rattle.racks.specs.Numbers.{some_away}
 use Rattle.racks.proofs.Geometry.{rack_lt}
 use Rattle.racks.specs.parts.Legal.{Legal, Spared}
 use Rattle.racks.proofs.LegalTable.{legal-dest, spare_lt, spare-rack, spare-none}
 use Rattle.racks.proofs.Away.{away-held, away-is, to-away, to-rack, to_is, on-is}
 use Rattle.plans.specs.Plan.{plan}
 use Rattle.plans.specs.Allowed.{Allowed}
-use Rattle.plans.proofs.Plans.{serves-allowed, allowed_serves, plan-meets}
+use Rattle.plans.proofs.Plans.{serves-allowed, allowed_serves, plan-allowed, plan-meets}
 
 module _ (racks : List Rack) (places : List ℕ) where
   -- slot k is on a rack that awaits a card
@@ -97,3 +99,8 @@ module _ (racks : List Rack) (places : List ℕ) where
     -- and the plan has a pair
     pub plan-some : 0 < length (plan racks places)
     plan-some = let (m, o) = possible in plan-meets racks places (rack_to racks places m.0) m (allowed_serves racks places m o)
+
+  -- where nothing is away the plan has no pair
+  pub plan-none : some_away racks places ≡ false → plan racks places ≡ []
+  unfolding some_away
+  plan-none h = all_none (λ m o. no_way o.is-away (some-off (slots racks) (away racks places) h m.0 o.from_lt)) (plan-allowed racks places)

@@ -10,7 +10,7 @@ use lib.ListN.{length, get_or, set, length-set}
 use lib.Seq.{get_or-set_same, get_or-set_other}
 use Rattle.counting.specs.Tests.{bit}
 use Rattle.racks.specs.Table.{dest}
-use Rattle.tables.specs.parts.Tables.{named_slot, target, away_by}
+use Rattle.tables.specs.parts.Tables.{named_slot, target, away_by, Aimed}
 use Rattle.tables.proofs.Targets.{at_target, at-away, aim-is}
 use Rattle.queues.specs.parts.Line.{queue_of, tail_of}
 use Rattle.queues.specs.parts.Queued.{queued, Queueable}
@@ -49,8 +49,12 @@ queued-is racking places g line q =
 
 -- n is the slot that slot g's entry names, as the code reads it
 module _ (racking places : List ℕ) (g n : ℕ) (en : n ≡ named_slot g (get_or places g 0)) (line : List ℕ) (q : Queueable racking places g line) where
+  -- it can be looked at
+  pub aims : Aimed racking places g
+  aims = record { slot = q.slot; small = q.small; rack = q.rack; named = q.named; racked = q.racked }
+
   aim : n ≡ named_slot g (dest places g)
-  aim = aim-is racking places g q.aims n en
+  aim = aim-is racking places g aims n en
 
   -- the line at the tail of that rack's queue
   pub slot-fits : tail_of line (get_or racking n 0) < 4160

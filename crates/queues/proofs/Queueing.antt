@@ -86,8 +86,13 @@ module _ (racks : List Rack) (places racking : List ℕ) (t : Tabled racks place
     -- the slot can be queued
     pub queueable : Queueable racking places g line
     queueable =
+        let a = aimed racks places racking t.legal t.filled g l t.small t.few in
         record {
-          aims = aimed racks places racking t.legal t.filled g l t.small t.few;
+          slot = a.slot;
+          small = a.small;
+          rack = a.rack;
+          named = a.named;
+          racked = a.racked;
           fits = omega (arith, target-tail, tail-small (target racking places g) to_lt);
           long = q.long;
         }
@@ -100,7 +105,7 @@ module _ (racks : List Rack) (places racking : List ℕ) (t : Tabled racks place
         (waits : (k : ℕ) → k < length racks → part (set (queue_of line) (tail_at racks places g p) g) (begins racks k) (tail_at racks places (g + 1) k) ≡ select (g + 1) (away_to racks places k)) where
       grown : Queueing racks places start (g + 1) (stored line p g y)
       grown =
-          let few : p < 64 = queueable.aims.racked in
+          let few : p < 64 = queueable.racked in
           let fits : tail_of line p < 4160 = queueable.fits in
           let else : (k : ℕ) → 4160 ≤ k → k ≢ 4224 + p → get_or (stored line p g y) k 0 ≡ get_or line k 0 = stored_else line p g y q.long few fits in
           record {

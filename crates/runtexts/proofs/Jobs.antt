@@ -1,7 +1,6 @@
 -- What is known of the job of capacities whose table and cards are not refused. Assumes nothing.
 use mathlib.Core.Path.{◌≡◌, ◌∙◌}
 use mathlib.Core.List.{List}
-use lib.ListN.{length}
 use Prim.Native.Nat.{ℕ}
 use Rattle.counting.specs.Checks.{first}
 use Rattle.racks.specs.Racks.{of_caps}
@@ -30,5 +29,5 @@ module _ (caps : List ℕ) (job : Job) (is : job ≡ job_of (of_caps caps)) (b :
   job-racks = of-racks caps job is none
 
   -- it is accepted
-  pub job_open : (before racking : List ℕ) → length before ≡ 4096 → Racked (racks_of job) before racking → OpenCards job b places cards racking
-  job_open before racking e f = cards_open job b places cards (λ r. (of-fit caps job is r).0) racking f.filled (f.long ∙ e) (of-cards caps job is b places cards ∙ z)
+  pub job_open : (racking : List ℕ) → Racked (racks_of job) racking → OpenCards job b places cards racking
+  job_open racking f = cards_open job b places cards (λ r. (of-fit caps job is r).0) racking f (of-cards caps job is b places cards ∙ z)

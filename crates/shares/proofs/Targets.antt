@@ -22,7 +22,7 @@ use Rattle.racks.proofs.Away.{away-held, away-is, to-away, to-rack, to-own, to_i
 use Rattle.plans.specs.Plan.{open_slots}
 use Rattle.plans.proofs.Grants.{length_open, length-plan_for}
 use Rattle.spans.specs.parts.Spans.{range_of, free_range, entry_in}
-use Rattle.spans.proofs.Spans.{lies-on, lies-off, free-lies, found_by}
+use Rattle.spans.proofs.Found.{lies-on, lies-off, free-lies, found_by}
 use Rattle.shares.specs.parts.Targets.{coming_to, share_to}
 use Rattle.shares.specs.parts.Shares.{share_of}
 

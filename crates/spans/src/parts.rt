@@ -1,6 +1,9 @@
-// Spans of slots: how many of their entries lie in a range.
-ghost use Rattle.std.specs.Prelude.{◌≡◌, ◌+◌, ◌≤◌, length};
-ghost use Rattle.spans.specs.parts.Spans.{range_of, free_range, behind, lies, RangeFits, entries_in};
+// Spans of slots: how many of their entries lie in a range, where the lowest does, and the slots of such entries put into a list of pairs.
+ghost use Rattle.std.specs.Prelude.{◌≡◌, ◌+◌, ◌-◌, ◌*◌, ◌≤◌, ◌<◌, min, length, take};
+ghost use Rattle.counting.specs.Tests.{pick};
+ghost use Rattle.counting.specs.Count.{select_from};
+ghost use Rattle.counting.specs.Lists.{column};
+ghost use Rattle.spans.specs.parts.Spans.{range_of, free_range, behind, lies, RangeFits, entry_in, hits_in, entries_in, Puttable, SlotsPut};
 
 use racks::Job;
 
@@ -34,6 +37,16 @@ impl Range {
     }
 }
 
+// What a span has: how many of its entries lie in a range, and how far from its first slot the lowest of them is; its length where none does.
+#[derive(Clone, Copy)]
+pub struct Hits {
+    pub count: u16,
+    pub lowest: u16,
+}
+
+// The slots of a piece, which a loop looks at without a branch: of so many, and always as many, the compiler makes steps of several slots.
+const PIECE: u16 = 64;
+
 // How far x lies behind `first`, where 0 follows on 65,535. Both ways are one subtraction of 16 bits.
 fn behind(first: u16, x: u16) -> u16
     ensures { result ≡ behind first x }
@@ -50,6 +63,121 @@ fn lies(range: Range, x: u16) -> bool
     ensures { result ≡ lies range x }
 {
     behind(range.first, x) < range.width
+}
+
+// One of two numbers by a test: a choice and no branch, which could not be foretold.
+fn chosen(test: bool, x: u16, y: u16) -> u16
+    ensures { result ≡ pick test x y }
+{
+    if test {
+        return x;
+    }
+    y
+}
+
+// The lower of two numbers, of 16 bits as the entries are: so a pass takes as many slots at a step as it can.
+fn lower(x: u16, y: u16) -> u16
+    ensures { result ≡ min x y }
+{
+    if x < y {
+        return x;
+    }
+    y
+}
+
+// What the n slots from `low` on have of a range: one pass without a branch on an entry.
+pub fn look(places: &[u16], low: usize, n: u16, range: Range) -> Hits
+    requires { (low + n ≤ length places.now) × RangeFits range }
+    ensures { result ≡ hits_in places.now range low n }
+{
+    let mut count: u16 = 0;
+    let mut lowest: u16 = n;
+    let mut j: u16 = 0;
+    while j < n {
+        let hit = lies(range, places[low + j as usize]);
+        count = count + tables::parts::one_if(hit);
+        lowest = lower(chosen(hit, j, n), lowest);
+        j = j + 1;
+    }
+    Hits { count, lowest }
+}
+
+// The slots from `low` on whose entries lie in a range, into one column of the pairs from k up to `stop`. The store is made whatever the
+// entry is, since no branch on it could be foretold: what is no such slot is written over by the next one.
+pub fn put_hits(
+    places: &[u16],
+    low: usize,
+    range: Range,
+    lent: &mut [u16],
+    side: usize,
+    k: usize,
+    stop: usize,
+)
+    requires low_in_bounds { (low ≤ length places.now) × (length places.now ≤ 65535) × RangeFits range × (side ≤ 1) × (k ≤ stop) × (2 * stop ≤ length lent.old) }
+    requires k_in_bounds { stop - k ≤ length (select_from low (length places.now - low) (entry_in places.now range)) }
+    ensures { lent.new ≡ column side lent.old k (take (stop - k) (select_from low (length places.now - low) (entry_in places.now range))) }
+{
+    let mut g = low;
+    let mut next = k;
+    while next < stop {
+        lent[2 * next + side] = g as u16;
+        next = next + tables::parts::one_if(lies(range, places[g])) as usize;
+        g = g + 1;
+    }
+}
+
+// Of the n slots from `low` on those whose entries lie in a range, from the lowest up, into the pairs from k up to `stop`. Gives the next pair.
+// Most often there is one such slot or none: that is one store and no branch, of the slot or of what stood there.
+fn put_piece(
+    places: &[u16],
+    low: usize,
+    n: u16,
+    range: Range,
+    lent: &mut [u16],
+    k: usize,
+    stop: usize,
+) -> usize
+    requires { Puttable places.now range low n lent.old stop × (k < stop) }
+    ensures { SlotsPut lent.old k (take (stop - k) (select_from low n (entry_in places.now range))) result lent.new }
+{
+    let here = look(places, low, n, range);
+    let slot = low + here.lowest as usize;
+    if here.count < 2 {
+        lent[2 * k] = chosen(here.count == 1, slot as u16, lent[2 * k]);
+        return k + here.count as usize;
+    }
+    let end = racks::parts::smaller(k + here.count as usize, stop);
+    put_hits(places, slot, range, lent, 0, k, end);
+    end
+}
+
+// The same of a span of any length, a piece at a time: where no pair is left no further slot is looked at. The last piece has a call of its
+// own, so that in the other the length is a constant.
+pub fn put_span(
+    places: &[u16],
+    low: usize,
+    high: usize,
+    range: Range,
+    lent: &mut [u16],
+    k: usize,
+    stop: usize,
+) -> usize
+    requires { (low ≤ high) × Puttable places.now range low (high - low) lent.old stop × (k ≤ stop) }
+    ensures { SlotsPut lent.old k (take (stop - k) (select_from low (high - low) (entry_in places.now range))) result lent.new }
+{
+    let mut g = low;
+    let mut next = k;
+    while g < high {
+        if next == stop {
+            return next;
+        }
+        if high < g + PIECE as usize {
+            return put_piece(places, g, (high - g) as u16, range, lent, next, stop);
+        }
+        next = put_piece(places, g, PIECE, range, lent, next, stop);
+        g = g + PIECE as usize;
+    }
+    next
 }
 
 // How many of the n slots from `low` on have an entry that lies in a range: one loop without a branch on an entry, all in 16 bits as the

@@ -28,7 +28,7 @@ use Rattle.racks.specs.parts.Legal.{Legal}
 use Rattle.racks.proofs.LegalTable.{places-legal}
 use Rattle.tables.specs.Check.{checked}
 use Rattle.entries.specs.parts.Marks.{entries_number, entries_refusal}
-use Rattle.tables.specs.parts.Tables.{Filled, Racked, OpenCards, Judged, Checked, CardsChecked, refusal_by, table_number, cards_number, checked_by}
+use Rattle.tables.specs.parts.Tables.{Racked, OpenCards, Judged, Checked, CardsChecked, refusal_by, table_number, cards_number, checked_by}
 use Rattle.tables.proofs.Refusals.{number_by, placed_by, racks-refused_by, placeless_by, place_by}
 
 module _ (job : Job) (places : List ℕ) where
@@ -82,8 +82,8 @@ module _ {job : Job} {places : List ℕ} {x : Refusal} (j : Judged job places x)
   checked_refused racking f = record { refusal_is = j.refusal_is; opened = λ z. absurd (f z) }
 
   -- where it is not, each slot's rack is known too
-  pub checked-filled : (before racking : List ℕ) → length before ≡ 4096 → Racked (racks_of job) before racking → Checked job places x racking
-  checked-filled before racking e r = record { refusal_is = j.refusal_is; opened = λ z. record { sound = j.sound z; legal = j.legal z; filled = r.filled; long = r.long ∙ e } }
+  pub checked-filled : (racking : List ℕ) → Racked (racks_of job) racking → Checked job places x racking
+  checked-filled racking r = record { refusal_is = j.refusal_is; opened = λ z. record { sound = j.sound z; legal = j.legal z; filled = r.filled; long = r.long } }
 
   -- its number
   pub judged-number : x.number ≡ table_number job places
@@ -164,15 +164,15 @@ module _ (job : Job) (b : ℕ) (places cards : List ℕ) where
       known-none job.refused _ c.1
 
   -- and is accepted
-  pub cards_open : Fit job → (racking : List ℕ) → Filled (racks_of job) racking → length racking ≡ 4096 → cards_number job b places cards ≡ 0 → OpenCards job b places cards racking
+  pub cards_open : Fit job → (racking : List ℕ) → Racked (racks_of job) racking → cards_number job b places cards ≡ 0 → OpenCards job b places cards racking
   unfolding cards_number bad_bytes
-  cards_open fit racking filled long z =
+  cards_open fit racking racked z =
       let r = cards-racks z in
       let a = first_off (eqb job.refused 1) 1 _ (λ e. omega arith) z in
       let c = first_off (bad_bytes b) 2 _ (λ e. omega arith) a.1 in
       let g = cards-good (racks_of job) b places cards (sym (known_past job.refused _ r) ∙ c.1) in
       record {
-        table = record { sound = fit r; legal = g.0; filled = filled; long = long };
+        table = record { sound = fit r; legal = g.0; filled = racked.filled; long = racked.long };
         bytes = ltb-false 256 b (or-off_r (eqb b 0) c.0);
         long = g.1;
       }

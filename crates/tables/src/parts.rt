@@ -47,9 +47,9 @@ pub fn rack_of(job: Job, g: usize) -> usize
 }
 
 // Each slot's rack. What stands behind the last slot is left.
-pub fn fill_racking(job: Job, racking: &mut [u8])
-    requires { Sound job × (SLOTS ≤ length racking.old) }
-    ensures { Racked (racks_of job) racking.old racking.new }
+pub fn fill_racking(job: Job, racking: &mut [u8; Job::MAX_SLOTS])
+    requires { Sound job × (length racking.old ≡ SLOTS) }
+    ensures { Racked (racks_of job) racking.new }
 {
     let n = job.racks;
     let mut low: usize = 0;

@@ -1,10 +1,10 @@
 -- The pass that fills the queues, a slot at a time, as the code makes it. Assumes nothing: these are definitions.
 use Rattle.std.specs.Prelude.{◌≡◌, Bool, false, List, ℕ, ◌+◌, ◌≤◌, ◌<◌, leb, ltb, length, get_or, set}
 use Rattle.counting.specs.Tests.{◌and◌, pick}
-use Rattle.racks.specs.Limits.{RACKS}
+use Rattle.racks.specs.Limits.{RACKS, SLOTS}
 use Rattle.racks.specs.Racks.{Rack, base}
-use Rattle.racks.specs.Table.{free}
-use Rattle.tables.specs.parts.Tables.{target, away_by, Aimed}
+use Rattle.racks.specs.Table.{dest, free}
+use Rattle.tables.specs.parts.Tables.{named_slot, target, away_by}
 use Rattle.plans.specs.Plan.{room}
 use Rattle.bits.specs.parts.Bits.{bit_on}
 use Rattle.queues.specs.parts.Line.{head_of, tail_of, room_of, HEADS, TAILS, ROOMS, LINE}
@@ -43,9 +43,13 @@ queued racking places g line =
     let line' = set line (tail_of line p) g in
     pick (away_by racking places g) (one_more line' (TAILS + p)) line'
 
--- slot g can be queued: it can be looked at, and its card's queue has room
+-- slot g can be queued: it and its card's destination are slots, the table has racks there, and its card's queue has room
 pub record Queueable (racking places : List ℕ) (g : ℕ) (line : List ℕ) : Type 0 where
-  pub aims : Aimed racking places g
+  pub slot : g < length places
+  pub small : g < SLOTS
+  pub rack : get_or racking g 0 < RACKS
+  pub named : named_slot g (dest places g) < SLOTS
+  pub racked : target racking places g < RACKS
   pub fits : tail_of line (target racking places g) < HEADS
   pub long : length line ≡ LINE
 

@@ -37,10 +37,10 @@ pub record Aimed (racking places : List ℕ) (g : ℕ) : Type 0 where
 abbrev pub Filled : List Rack → List ℕ → Type 0
 Filled racks racking = (g : ℕ) → g < slots racks → get_or racking g 0 ≡ rack_of racks g
 
--- the racking as it is filled: each slot's rack, in a list that is as long as before
-pub record Racked (racks : List Rack) (before racking : List ℕ) : Type 0 where
+-- the racking as it is filled: each slot's rack, in a list for all slots
+pub record Racked (racks : List Rack) (racking : List ℕ) : Type 0 where
   pub filled : Filled racks racking
-  pub long : length racking ≡ length before
+  pub long : length racking ≡ SLOTS
 
 -- what acceptance gives: a sound job, a legal table, and each slot's rack in a list for all slots
 pub record Open (job : Job) (places racking : List ℕ) : Type 0 where

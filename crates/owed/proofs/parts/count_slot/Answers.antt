@@ -6,7 +6,7 @@ use lib.ListN.{get_or}
 use Rattle.counting.proofs.Tests.{bit_le}
 use Rattle.owed.specs.parts.Owed.{cell}
 use Rattle.tables.proofs.Targets.{aim-small, aim-racked}
-use Rattle.owed.proofs.Owed.{slot-cell, counted-slot}
+use Rattle.owed.proofs.Owed.{aims, slot-cell, counted-slot}
 use Rattle.owed.proofs.parts.count_slot.Goals as goal
 use Rattle.owed.proofs.parts.count_slot.Goals.{After-to-1}
 
@@ -15,10 +15,10 @@ at : (c : After-to-1) → cell (get_or c.args.racking.now c.args.g 0) (get_or c.
 at c = slot-cell _ _ _ _ c.named_slot.ensures _ c.requires
 
 pub bounds-racking-named_slot : goal.bounds-racking-named_slot
-bounds-racking-named_slot c = aim-small _ _ _ c.requires.aims _ c.named_slot.ensures
+bounds-racking-named_slot c = aim-small _ _ _ (aims _ _ _ _ c.named_slot.ensures _ c.requires) _ c.named_slot.ensures
 
 pub overflow_cast-to : goal.overflow_cast-to
-overflow_cast-to c = omega (arith, aim-racked _ _ _ c.requires.aims _ c.named_slot.ensures)
+overflow_cast-to c = omega (arith, aim-racked _ _ _ (aims _ _ _ _ c.named_slot.ensures _ c.requires) _ c.named_slot.ensures)
 
 pub overflow_add-k : goal.overflow_add-k
 overflow_add-k c = omega (arith, at c)

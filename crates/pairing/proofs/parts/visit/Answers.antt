@@ -13,9 +13,9 @@ plan_rack-requires c = let v = c.requires.3 in
     let e = visit-made c.args.ends.now c.args.line.now c.args.bits.now c.args.p c.smaller-made.result m in
     let f = c.first_slot-low.ensures in
     record {
-  head_le_end = (omega arith, omega (arith, v.queued, v.within), c.requires.0, omega (arith, f, v.low_in), c.requires.2);
-  end_bound = (rw f (omega (arith, v.roomy)), omega (arith, c.requires.4));
-}
+      head_le_end = (omega arith, omega (arith, v.queued, v.within), c.requires.0, omega (arith, f, v.low_in), c.requires.2);
+      end_bound = (rw f (omega (arith, v.roomy)), omega (arith, c.requires.4));
+    }
 
 pub overflow_cast-line-2 : goal.overflow_cast-line-2
 overflow_cast-line-2 c = omega (arith, c.requires.3.roomy, open-few c.args.bits.now (start_in c.args.ends.now c.args.p) 4096)

@@ -7,7 +7,7 @@ use Rattle.counting.proofs.Count.{count_none, count-more, count_le}
 use Rattle.spans.specs.parts.Spans.{entry_in, entries_in}
 use Rattle.spans.proofs.Spans.{lies-read}
 use Rattle.spans.proofs.parts.count_in.Goals as goal
-use Rattle.spans.proofs.parts.count_in.Goals.{After-one_if-found}
+use Rattle.spans.proofs.parts.count_in.Goals.{After-lies, After-one_if-found}
 
 pub loop-j-init : goal.loop-j-init
 loop-j-init c = (omega arith, sym (count_none _))
@@ -16,14 +16,14 @@ pub lies-requires : goal.lies-requires
 lies-requires c = c.requires.1
 
 -- whether the entry lies in the range
-hit : (c : After-one_if-found)
+hit : (c : After-lies)
     → c.lies.result ≡ entry_in c.args.places.now c.args.range (c.args.low + c.loop-j.j)
 hit c = c.lies.ensures ∙ lies-read _ _ _ (omega arith)
 
 -- what is added for it
 adds : (c : After-one_if-found)
     → c.one_if-found.result ≡ bit (entry_in c.args.places.now c.args.range (c.args.low + c.loop-j.j))
-adds c = c.one_if-found.ensures ∙ ap bit (hit c)
+adds c = c.one_if-found.ensures ∙ ap bit ((c.lies.ensures ∙ lies-read _ _ _ (omega arith)))
 
 pub overflow_add-found : goal.overflow_add-found
 overflow_add-found c =

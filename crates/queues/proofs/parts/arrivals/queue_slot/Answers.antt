@@ -6,20 +6,20 @@ use lib.ListN.{get_or}
 use Rattle.counting.proofs.Tests.{bit_le}
 use Rattle.queues.specs.parts.Line.{tail_of}
 use Rattle.tables.proofs.Targets.{aim-small, aim-racked}
-use Rattle.queues.proofs.QueueSlot.{slot-fits, queued-slot}
+use Rattle.queues.proofs.QueueSlot.{aims, slot-fits, queued-slot}
 use Rattle.queues.proofs.parts.arrivals.queue_slot.Goals as goal
 use Rattle.queues.proofs.parts.arrivals.queue_slot.Goals.{After-there-1}
 
 -- the card's rack has a queue
 racked : (c : After-there-1) → get_or c.args.racking.now c.named_slot.result 0 < 64
-racked c = aim-racked _ _ _ c.requires.aims _ c.named_slot.ensures
+racked c = aim-racked _ _ _ (aims _ _ _ _ c.named_slot.ensures _ c.requires) _ c.named_slot.ensures
 
 -- and the queue has room
 fits : (c : After-there-1) → tail_of c.args.line.now (get_or c.args.racking.now c.named_slot.result 0) < 4160
 fits c = slot-fits _ _ _ _ c.named_slot.ensures _ c.requires
 
 pub bounds-racking-named_slot : goal.bounds-racking-named_slot
-bounds-racking-named_slot c = aim-small _ _ _ c.requires.aims _ c.named_slot.ensures
+bounds-racking-named_slot c = aim-small _ _ _ (aims _ _ _ _ c.named_slot.ensures _ c.requires) _ c.named_slot.ensures
 
 pub overflow_cast-there : goal.overflow_cast-there
 overflow_cast-there c = omega (arith, racked c)

@@ -16,30 +16,27 @@ put-text-requires c κs = search rules
 of-requires : tie.Need-of-requires
 of-requires c κs = search rules
 
-slice-aggregate-fill-racking : tie.Need-slice-aggregate-fill-racking
-slice-aggregate-fill-racking c = search rules
-
 fill-racking-requires : tie.Need-fill-racking-requires
-fill-racking-requires c κs = (job-sound c.before.before.before.before.before.before.before.before.before.args.caps.now _ c.before.of.ensures c.before.before.before.before.before.before.before.before.before.args.b c.before.before.before.before.before.before.before.before.before.args.places.now c.before.before.before.before.before.before.before.before.before.args.bytes.now c.before.before.before.before.before.before.before.before.before.requires.0, omega arith)
+fill-racking-requires c κs = (job-sound c.before.before.before.before.before.before.before.before.before.args.caps.now _ c.before.of.ensures c.before.before.before.before.before.before.before.before.before.args.b c.before.before.before.before.before.before.before.before.before.args.places.now c.before.before.before.before.before.before.before.before.before.args.bytes.now c.before.before.before.before.before.before.before.before.before.requires.0, refl)
 
 array-borrow-prefix-cards : tie.Need-array-borrow-prefix-cards
 array-borrow-prefix-cards c = search rules
 
 slice-aggregate-put-run : tie.Need-slice-aggregate-put-run
 slice-aggregate-put-run c =
-    let w = c.before.before.before.before.before.before.before.before.put-text.ensures in
-    omega (arith, ap length (wrote-front w refl (omega (arith, c.before.before.before.before.before.before.before.before.before.before.before.before.before.before.requires.1))), w.behind)
+    let w = c.before.before.before.before.before.before.before.put-text.ensures in
+    omega (arith, ap length (wrote-front w refl (omega (arith, c.before.before.before.before.before.before.before.before.before.before.before.before.before.requires.1))), w.behind)
 
 put-run-requires : tie.Need-put-run-requires
 put-run-requires c κs =
-    let s = c.before.before.before.before.before.before.before.before.before.before.before.before.before.before.before in
-    let o = job_open c.before.before.before.before.before.before.before.before.before.before.before.before.before.before.before.args.caps.now _ c.before.before.before.before.before.before.before.of.ensures c.before.before.before.before.before.before.before.before.before.before.before.before.before.before.before.args.b c.before.before.before.before.before.before.before.before.before.before.before.before.before.before.before.args.places.now c.before.before.before.before.before.before.before.before.before.before.before.before.before.before.before.args.bytes.now c.before.before.before.before.before.before.before.before.before.before.before.before.before.before.before.requires.0 _ _ refl c.before.before.before.before.before.fill-racking.ensures in
-    let f = wrote-front c.before.before.before.before.before.before.before.before.before.put-text.ensures refl (omega (arith, s.requires.1)) in (
+    let s = c.before.before.before.before.before.before.before.before.before.before.before.before.before.before in
+    let o = job_open c.before.before.before.before.before.before.before.before.before.before.before.before.before.before.args.caps.now _ c.before.before.before.before.before.before.of.ensures c.before.before.before.before.before.before.before.before.before.before.before.before.before.before.args.b c.before.before.before.before.before.before.before.before.before.before.before.before.before.before.args.places.now c.before.before.before.before.before.before.before.before.before.before.before.before.before.before.args.bytes.now c.before.before.before.before.before.before.before.before.before.before.before.before.before.before.requires.0 _ c.before.before.before.before.fill-racking.ensures in
+    let f = wrote-front c.before.before.before.before.before.before.before.before.put-text.ensures refl (omega (arith, s.requires.1)) in (
       o.table,
-      job-spared c.before.before.before.before.before.before.before.before.before.before.before.before.before.before.before.args.caps.now _ c.before.before.before.before.before.before.before.of.ensures c.before.before.before.before.before.before.before.before.before.before.before.before.before.before.before.args.b c.before.before.before.before.before.before.before.before.before.before.before.before.before.before.before.args.places.now c.before.before.before.before.before.before.before.before.before.before.before.before.before.before.before.args.bytes.now c.before.before.before.before.before.before.before.before.before.before.before.before.before.before.before.requires.0,
+      job-spared c.before.before.before.before.before.before.before.before.before.before.before.before.before.before.args.caps.now _ c.before.before.before.before.before.before.of.ensures c.before.before.before.before.before.before.before.before.before.before.before.before.before.before.args.b c.before.before.before.before.before.before.before.before.before.before.before.before.before.before.args.places.now c.before.before.before.before.before.before.before.before.before.before.before.before.before.before.args.bytes.now c.before.before.before.before.before.before.before.before.before.before.before.before.before.before.requires.0,
       ap length f ∙ o.long,
       o.bytes,
-      rw (job-racks c.before.before.before.before.before.before.before.before.before.before.before.before.before.before.before.args.caps.now _ c.before.before.before.before.before.before.before.of.ensures c.before.before.before.before.before.before.before.before.before.before.before.before.before.before.before.args.b c.before.before.before.before.before.before.before.before.before.before.before.before.before.before.before.args.places.now c.before.before.before.before.before.before.before.before.before.before.before.before.before.before.before.args.bytes.now c.before.before.before.before.before.before.before.before.before.before.before.before.before.before.before.requires.0, f) s.requires.2,
+      rw (job-racks c.before.before.before.before.before.before.before.before.before.before.before.before.before.before.args.caps.now _ c.before.before.before.before.before.before.of.ensures c.before.before.before.before.before.before.before.before.before.before.before.before.before.before.args.b c.before.before.before.before.before.before.before.before.before.before.before.before.before.before.args.places.now c.before.before.before.before.before.before.before.before.before.before.before.before.before.before.args.bytes.now c.before.before.before.before.before.before.before.before.before.before.before.before.before.before.requires.0, f) s.requires.2,
     )
 
 same_length : tie.Need-same-length
@@ -50,9 +47,9 @@ same-length-2 c = search rules
 
 returns : tie.Need-returns
 returns c =
-    let s = c.before.before.before.before.before.before.before.before.before.before.before.before.before.before.before.before.before.before.before.before.before in
-    let f = wrote-front c.before.before.before.before.before.before.before.before.before.before.before.before.before.before.before.put-text.ensures refl (omega (arith, s.requires.1)) in
-    rw (job-racks c.before.before.before.before.before.before.before.before.before.before.before.before.before.before.before.before.before.before.before.before.before.args.caps.now _ c.before.before.before.before.before.before.before.before.before.before.before.before.before.of.ensures c.before.before.before.before.before.before.before.before.before.before.before.before.before.before.before.before.before.before.before.before.before.args.b c.before.before.before.before.before.before.before.before.before.before.before.before.before.before.before.before.before.before.before.before.before.args.places.now c.before.before.before.before.before.before.before.before.before.before.before.before.before.before.before.before.before.before.before.before.before.args.bytes.now c.before.before.before.before.before.before.before.before.before.before.before.before.before.before.before.before.before.before.before.before.before.requires.0, f) at c.before.before.before.before.before.put-run.ensures
+    let s = c.before.before.before.before.before.before.before.before.before.before.before.before.before.before.before.before.before.before.before.before in
+    let f = wrote-front c.before.before.before.before.before.before.before.before.before.before.before.before.before.before.put-text.ensures refl (omega (arith, s.requires.1)) in
+    rw (job-racks c.before.before.before.before.before.before.before.before.before.before.before.before.before.before.before.before.before.before.before.before.args.caps.now _ c.before.before.before.before.before.before.before.before.before.before.before.before.of.ensures c.before.before.before.before.before.before.before.before.before.before.before.before.before.before.before.before.before.before.before.before.args.b c.before.before.before.before.before.before.before.before.before.before.before.before.before.before.before.before.before.before.before.before.args.places.now c.before.before.before.before.before.before.before.before.before.before.before.before.before.before.before.before.before.before.before.before.args.bytes.now c.before.before.before.before.before.before.before.before.before.before.before.before.before.before.before.before.before.before.before.before.requires.0, f) at c.before.before.before.before.before.put-run.ensures
 
 pub put_job_spec : {M : Type 1} → statement M
 put_job_spec =
@@ -61,7 +58,6 @@ put_job_spec =
     slice-aggregate-put-text
     put-text-requires
     of-requires
-    slice-aggregate-fill-racking
     fill-racking-requires
     array-borrow-prefix-cards
     slice-aggregate-put-run

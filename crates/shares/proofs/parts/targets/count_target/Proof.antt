@@ -3,7 +3,7 @@ use native.Mathlib.Omega.{arith}
 use mathlib.Core.Path.{◌∙◌}
 use Rattle.spans.specs.parts.Spans.{RangeFits}
 use Rattle.shares.specs.parts.Targets.{coming_to, share_to}
-use Rattle.spans.proofs.Spans.{rack-fits, free-fits, found-few}
+use Rattle.spans.proofs.Found.{rack-fits, free-fits, found-few}
 use Rattle.shares.proofs.parts.targets.count_target.Statement.{statement}
 use Rattle.shares.proofs.parts.targets.count_target.Tie as tie
 
