@@ -119,7 +119,7 @@ calls-done [] s = record { in-turn = stop; held-is = refl; counts = refl }
 calls-done {racks} {b} {h} (call ∷ calls) s =
     let one = call-done call s in
     let h' : Held = (called racks b h call).held in
-    let rest = calls-done calls (subst (Start racks b) (sym one.held-is) (start-carried s one.in-turn)) in
+    let rest = calls-done {h = h'} calls (subst (Start racks b) (sym one.held-is) (start-carried s one.in-turn)) in
     let places-are : h'.places ≡ carried_places (makes racks b h call) h.places = ap (λ (x : Held). x.places) one.held-is in
     record {
       in-turn = in-turn-append one.in-turn (subst (λ (p : List ℕ). InTurn racks p (made racks b calls h')) places-are rest.in-turn);

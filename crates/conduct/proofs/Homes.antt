@@ -59,9 +59,9 @@ module _ {racks : List Rack} {b : ℕ} (small : slots racks ≤ 4096) where
   calls_keep : {h : Held} (calls : List CardsCall) → Start racks b h → Kept racks b h (left_after racks b calls h)
   unfolding left_after
   calls_keep [] s = record { start = s; home = λ x. x }
-  calls_keep (call ∷ calls) s =
+  calls_keep {h = h} (call ∷ calls) s =
       let one = call_keeps call s in
-      let rest = calls_keep calls one.start in
+      let rest = calls_keep {h = leaves racks b h call} calls one.start in
       record { start = rest.start; home = λ x. one.home (rest.home x) }
 
 module _ {racks : List Rack} {b : ℕ} {h : Held} (s : Start racks b h) (small : slots racks ≤ 4096) where

@@ -15,7 +15,7 @@ use Rattle.racks.specs.Numbers.{some_away}
 use Rattle.plans.specs.Plan.{plan}
 use Rattle.plans.proofs.Plans.{plan-allowed, plan-apart}
 use Rattle.plans.proofs.Possible.{plan-some}
-use Rattle.moves.specs.Moves.{Held, carried_places, carried, moved}
+use Rattle.moves.specs.Moves.{Held, moved_places, carried_places, carried, moved}
 use Rattle.moves.specs.Phases.{phases}
 use Rattle.moves.specs.Turns.{InTurn}
 use Rattle.moves.proofs.Carry.{pairs_in-turn, places-append, owes-carried}
@@ -51,7 +51,7 @@ run-away (phase {places} {ms} {rest} e p r) (suc n) l = rw (places-append ms (jo
 -- the first moves of a list in turn
 in-turn-front : {racks : List Rack} {places : List ℕ} (ms ns : List Pair) → InTurn racks places (ms ++ ns) → InTurn racks places ms
 in-turn-front [] ns t = stop
-in-turn-front (m ∷ ms) ns (next a t) = next a (in-turn-front ms ns t)
+in-turn-front {places = places} (m ∷ ms) ns (next a t) = next a (in-turn-front {places = moved_places m places} ms ns t)
 
 -- lists joined, the first n of them and those behind
 join-split : {A : Type 0} (n : ℕ) (l : List (List A)) → join (take n l) ++ join (drop n l) ≡ join l
