@@ -1,0 +1,6 @@
+-- `seineflute::seineflute_check_table` meets its contract. Assumes nothing.
+use mathlib.Core.Path.{◌∙◌}
+use Rattle.seineflute.proofs.seineflute_check_table.Goals as goal
+
+pub returns : goal.returns
+returns c = c.numbers_of.ensures ∙ c.check_table-answer.ensures

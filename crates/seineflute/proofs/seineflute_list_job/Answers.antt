@@ -1,0 +1,8 @@
+-- `seineflute::seineflute_list_job` meets its contract. Assumes nothing.
+use mathlib.Core.Path.{ap, ◌∙◌}
+use Rattle.answers.specs.Answers.{sized_of}
+use Rattle.answers.specs.declared.SizeAnswer.{SizeAnswer}
+use Rattle.seineflute.proofs.seineflute_list_job.Goals as goal
+
+pub returns : goal.returns
+returns c = ap (λ (a : SizeAnswer). sized_of a c.list_job-found.new.out) c.size_numbers.ensures ∙ c.list_job-found.ensures

@@ -1,0 +1,8 @@
+-- `seineflute::seineflute_shuffle_cards` meets its contract. Assumes nothing.
+use mathlib.Core.Path.{ap, ◌∙◌}
+use Rattle.answers.specs.declared.Answer.{Answer}
+use Rattle.moves.specs.Moves.{outcome_of}
+use Rattle.seineflute.proofs.seineflute_shuffle_cards.Goals as goal
+
+pub returns : goal.returns
+returns c = ap (λ (a : Answer). outcome_of a c.shuffle_cards-answer.new.places c.shuffle_cards-answer.new.cards) c.numbers_of.ensures ∙ c.shuffle_cards-answer.ensures

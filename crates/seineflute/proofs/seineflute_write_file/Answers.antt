@@ -1,0 +1,8 @@
+-- `seineflute::seineflute_write_file` meets its contract. Assumes nothing.
+use mathlib.Core.Path.{ap, ◌∙◌}
+use Rattle.answers.specs.Answers.{sized_of}
+use Rattle.answers.specs.declared.SizeAnswer.{SizeAnswer}
+use Rattle.seineflute.proofs.seineflute_write_file.Goals as goal
+
+pub returns : goal.returns
+returns c = ap (λ (a : SizeAnswer). sized_of a c.write_file-found.new.out) c.size_numbers.ensures ∙ c.write_file-found.ensures
