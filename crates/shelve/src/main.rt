@@ -1,10 +1,11 @@
 // shelve: lists the run of the job file on standard input.
 #![tactic(auto)]
 
-ghost use Rattle.std.specs.Prelude.{◌≡◌, ◌≤◌, length, take};
+ghost use Rattle.std.specs.Prelude.{◌≡◌, ◌<◌, ◌≤◌, IfOk, length, take};
 ghost use Rattle.listing.specs.Listing.{ENOUGH, listing};
 
-use libc::{STDIN_FILENO, STDOUT_FILENO};
+use std::io;
+use std::io::{ErrorKind, Read};
 
 // The text of a file, at the front of a buffer that is always long enough; gives how many bytes it has.
 fn list_file(file: &[u8], out: &mut [u8]) -> usize
@@ -17,29 +18,62 @@ fn list_file(file: &[u8], out: &mut [u8]) -> usize
 }
 
 // Lists the file.
-fn list(file: &[u8]) {
+fn list(rt: &HostRuntime, file: &[u8]) {
     let mut out = [0u8; texts::ENOUGH];
     let size = list_file(file, &mut out);
-    if !io::write_all(STDOUT_FILENO, &out[..size]) {
-        os::fail(b"shelve: standard output");
+    if let Err(e) = rt.write_all(&out[..size]) {
+        fail(rt, "standard output", e);
     }
 }
 
-// Whether the input has ended: reading may also stop where a read fails.
-fn has_ended() -> bool {
+// Says on standard error what failed, and why.
+fn fail(rt: &HostRuntime, what: &str, error: io::Error) {
+    let _ = eprintln!(rt; "shelve: {what}: {error}");
+}
+
+// Reads until the buffer is full or the input ends; gives how many bytes are at its front.
+fn read_full<R: Read>(input: &mut R, buffer: &mut [u8]) -> io::Result<usize>
+    ensures { IfOk result (λ n. n ≤ length buffer.new) }
+{
+    let mut n = 0;
+    for _ in 0..u64::MAX {
+        if n == buffer.len() {
+            return Ok(n);
+        }
+        match input.read(&mut buffer[n..]) {
+            Ok(0) => return Ok(n),
+            Ok(more) => n += more,
+            Err(e) if e.kind() == ErrorKind::Interrupted => {}
+            Err(e) => return Err(e),
+        }
+    }
+    Err(io::Error::from(ErrorKind::Interrupted))
+}
+
+// Whether the input has ended.
+fn has_ended<R: Read>(input: &mut R) -> io::Result<bool> {
     let mut more = [0u8; 1];
-    libc::read(STDIN_FILENO, &mut more) == 0
+    Ok(read_full(input, &mut more)? == 0)
+}
+
+// The input at the front of the buffer; gives how many bytes it has, and the buffer's length where it does not end before the last of them.
+fn read_file<R: Read>(input: &mut R, file: &mut [u8]) -> io::Result<usize>
+    requires { 0 < length file.old }
+    ensures { IfOk result (λ n. n ≤ length file.new) }
+{
+    let most = file.len() - 1;
+    let n = read_full(input, &mut file[..most])?;
+    if has_ended(input)? {
+        return Ok(n);
+    }
+    Ok(file.len())
 }
 
 // One byte more than a file may have is enough to see that it has too many.
-fn main() {
+fn main(rt: HostRuntime) {
     let mut file = [0u8; texts::FILE + 1];
-    let n = io::read_full(STDIN_FILENO, &mut file);
-    if n <= texts::FILE {
-        if !has_ended() {
-            os::fail(b"shelve: standard input");
-            return;
-        }
+    match read_file(&mut rt.stdin(), &mut file) {
+        Ok(n) => list(&rt, &file[..n]),
+        Err(e) => fail(&rt, "standard input", e),
     }
-    list(&file[..n]);
 }
