@@ -1,62 +1,61 @@
 // Job files run and compared: the arguments name a job file and the text that it must give, and so on; prints a line for each.
 #![tactic(auto)]
 
-ghost use Rattle.io.specs.Counts.{IsPrefixLen};
+ghost use Rattle.std.specs.Prelude.{◌≡◌, ◌≤◌, IfOk, length, take};
 
-use libc::STDOUT_FILENO;
+use std::io::{Read, Write};
+use std::{env, fs, io};
 
-// The file that argument i names, at the front of the buffer; gives how many bytes of it are there.
-fn read_named(i: usize, buffer: &mut [u8]) -> usize
-    ensures { IsPrefixLen result buffer.new }
+// The file of that name, at the front of the buffer, or as much of it as there is room for; gives how many bytes of it are there.
+fn read_named(rt: &HostRuntime, name: &str, buffer: &mut [u8]) -> io::Result<usize>
+    ensures within { IfOk result (λ n. n ≤ length buffer.new) }
+    ensures front { IfOk result (λ n. n ≡ length (take n buffer.new)) }
 {
-    let mut path = io::buffer();
-    let n = os::arg(i, &mut path);
-    let fd = os::open_read(&path[..n]);
-    if fd < 0 {
-        os::fail(&path[..n]);
-    }
-    let size = io::read_full(fd, buffer);
-    libc::close(fd);
-    size
+    let mut bytes = Vec::new(rt.alloc());
+    let file = fs::open(rt, name)?;
+    file.take(buffer.len() as u64).read_to_end(&mut bytes)?;
+    let n = bytes.len().min(buffer.len());
+    buffer[..n].copy_from_slice(&bytes.as_slice()[..n]);
+    Ok(n)
 }
 
-// Whether the first bytes of a buffer are the text that argument i names.
-fn is_named(text: &[u8], size: usize, i: usize) -> bool {
+// Whether the first bytes of a buffer are the text of that name.
+fn is_named(rt: &HostRuntime, text: &[u8], size: usize, name: &str) -> io::Result<bool> {
     if text.len() < size {
-        return false;
+        return Ok(false);
     }
     let mut expected = [0u8; texts::ENOUGH];
-    let n = read_named(i, &mut expected);
-    check::same(&text[..size], &expected[..n])
+    let n = read_named(rt, name, &mut expected)?;
+    Ok(&text[..size] == &expected[..n])
 }
 
-// Whether the job file that argument i names gives the text that argument j names.
-fn gives(i: usize, j: usize) -> bool {
+// Whether the job file of one name gives the text of the other.
+fn gives(rt: &HostRuntime, job: &str, expected: &str) -> io::Result<bool> {
     let mut file = [0u8; texts::FILE + 1];
-    let n = read_named(i, &mut file);
+    let n = read_named(rt, job, &mut file)?;
     let mut text = [0u8; texts::ENOUGH];
     let listed = listing::list_job(&file[..n], &mut text);
-    is_named(&text, listed.size, j)
+    is_named(rt, &text, listed.size, expected)
 }
 
 // The line of one job file.
-fn compare(i: usize, j: usize) {
-    let mut path = io::buffer();
-    let n = os::arg(i, &mut path);
-    io::write_all(STDOUT_FILENO, &path[..n]);
-    if gives(i, j) {
-        io::write_all(STDOUT_FILENO, b" as expected\n");
-        return;
+fn compare(rt: &HostRuntime, job: &str, expected: &str) -> io::Result<()> {
+    print!(rt; "{job}")?;
+    if gives(rt, job, expected)? {
+        return println!(rt; " as expected");
     }
-    io::write_all(STDOUT_FILENO, b" differs\n");
+    println!(rt; " differs")
 }
 
 // The program's own name comes first, then two names for each job file.
-fn main() {
-    let count = os::arg_count();
-    let mut k: usize = 0;
-    while k < count / 2 {
-        compare(2 * k + 1, 2 * k + 2);
-        k = k + 1;
+fn main(rt: HostRuntime) -> io::Result<()> {
+    let names: Vec<String> = env::args(&rt)?.skip(1).collect(rt.alloc())?;
+    for pair in names.chunks(2) {
+        match pair {
+            [job, expected] => compare(&rt, job.as_str(), expected.as_str())?,
+            [job] => compare(&rt, job.as_str(), "")?,
+            _ => {}
+        }
     }
+    Ok(())
 }

@@ -3,55 +3,69 @@
 
 use racks::Job;
 use saying::parts::{say_answer, say_numbers};
+use std::io;
+use std::io::Write;
 
-fn say_plan(name: &[u8], caps: &[u16], places: &[u16], lent: &mut [u16]) {
+fn say_plan<W: Write>(
+    out: &mut W,
+    name: &[u8],
+    caps: &[u16],
+    places: &[u16],
+    lent: &mut [u16],
+) -> io::Result<()> {
     let answer = planner::phase_plan(caps, places, lent);
-    say_answer(name, answer);
-    say_numbers(b" pairs", lent);
-    io::write_all(1, b"\n");
+    say_answer(out, name, answer)?;
+    say_numbers(out, b" pairs", lent)?;
+    out.write_all(b"\n")
 }
 
 // Plans of case 1 into a list too short, exactly long enough, and longer.
-fn plan_case1(name: &[u8], lent: &mut [u16]) {
+fn plan_case1<W: Write>(out: &mut W, name: &[u8], lent: &mut [u16]) -> io::Result<()> {
     let caps = [2u16, 2, 1];
     let places = [3u16, 4, Job::FREE, 0, 6, Job::FREE, 1, Job::FREE];
-    say_plan(name, &caps, &places, lent);
+    say_plan(out, name, &caps, &places, lent)
 }
 
-fn plans_of_case1() {
-    plan_case1(b"plan of case 1, a list too short", &mut [7; 5]);
-    plan_case1(b"plan of case 1, exactly long enough", &mut [7; 6]);
-    plan_case1(b"plan of case 1, a longer list", &mut [7; 8]);
+fn plans_of_case1<W: Write>(out: &mut W) -> io::Result<()> {
+    plan_case1(out, b"plan of case 1, a list too short", &mut [7; 5])?;
+    plan_case1(out, b"plan of case 1, exactly long enough", &mut [7; 6])?;
+    plan_case1(out, b"plan of case 1, a longer list", &mut [7; 8])
 }
 
 // A plan of two racks of one, into a list for two pairs.
-fn plan_two(name: &[u8], places: &[u16]) {
+fn plan_two<W: Write>(out: &mut W, name: &[u8], places: &[u16]) -> io::Result<()> {
     let caps = [1u16, 1];
-    say_plan(name, &caps, places, &mut [7; 4]);
+    say_plan(out, name, &caps, places, &mut [7; 4])
 }
 
-fn plans_of_two() {
-    plan_two(b"plan of case 4", &[2, Job::FREE, 0, Job::FREE]);
-    plan_two(b"plan of case 5", &[2, 0, Job::FREE, Job::FREE]);
-    plan_two(b"a spare holds a card", &[Job::FREE, 2, Job::FREE, 0]);
-    plan_two(b"a bad table to plan", &[3, Job::FREE, 0, Job::FREE]);
-    plan_two(b"a slot named twice to plan", &[2, Job::FREE, 2, Job::FREE]);
+fn plans_of_two<W: Write>(out: &mut W) -> io::Result<()> {
+    plan_two(out, b"plan of case 4", &[2, Job::FREE, 0, Job::FREE])?;
+    plan_two(out, b"plan of case 5", &[2, 0, Job::FREE, Job::FREE])?;
+    plan_two(out, b"a spare holds a card", &[Job::FREE, 2, Job::FREE, 0])?;
+    plan_two(out, b"a bad table to plan", &[3, Job::FREE, 0, Job::FREE])?;
+    plan_two(
+        out,
+        b"a slot named twice to plan",
+        &[2, Job::FREE, 2, Job::FREE],
+    )
 }
 
 // Plans with nothing away, with a rack of none; refused.
-fn plan_edges() {
-    say_plan(b"nothing away", &[2], &[1, 0, Job::FREE], &mut [7; 0]);
+fn plan_edges<W: Write>(out: &mut W) -> io::Result<()> {
+    say_plan(out, b"nothing away", &[2], &[1, 0, Job::FREE], &mut [7; 0])?;
     say_plan(
+        out,
         b"a rack of none",
         &[0, 1],
         &[1, Job::FREE, Job::FREE],
         &mut [7; 2],
-    );
-    say_plan(b"no racks to plan", &[], &[], &mut [7; 2]);
+    )?;
+    say_plan(out, b"no racks to plan", &[], &[], &mut [7; 2])
 }
 
-fn main() {
-    plans_of_case1();
-    plans_of_two();
-    plan_edges();
+fn main(rt: HostRuntime) -> io::Result<()> {
+    let out = &mut io::writer(&rt);
+    plans_of_case1(out)?;
+    plans_of_two(out)?;
+    plan_edges(out)
 }

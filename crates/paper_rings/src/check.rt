@@ -19,12 +19,10 @@ fn settled(deal: Deal, g: usize) -> u16 {
 fn card_wrong(own: u16, card: &[u8]) -> usize
     ensures { result ≤ 1 }
 {
-    let mut k: usize = 0;
-    while k < card.len() {
-        if card[k] != deal::byte_of(own, k) {
+    for (k, x) in card.iter().enumerate() {
+        if *x != deal::byte_of(own, k) {
             return 1;
         }
-        k = k + 1;
     }
     0
 }
@@ -41,16 +39,14 @@ fn slot_wrong(own: u16, entry: u16, card: &[u8]) -> usize
 // Every slot is wrong where the cards are too short.
 pub fn wrong_slots(deal: Deal, b: usize, places: &[u16], cards: &[u8]) -> usize {
     let mut wrong: usize = 0;
-    let mut g: usize = 0;
     let mut at: usize = 0;
-    while g < places.len() {
+    for (g, entry) in places.iter().enumerate() {
         if cards.len() - at < b {
             return places.len();
         }
         let own = settled(deal, g);
-        wrong = wrong + slot_wrong(own, places[g], &cards[at..at + b]);
-        at = at + b;
-        g = g + 1;
+        wrong += slot_wrong(own, *entry, &cards[at..at + b]);
+        at += b;
     }
     wrong
 }

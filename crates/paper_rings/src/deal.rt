@@ -112,10 +112,8 @@ pub fn byte_of(d: u16, k: usize) -> u8 {
 }
 
 pub fn deal_places(deal: Deal, places: &mut [u16]) {
-    let mut g: usize = 0;
-    while g < places.len() {
-        places[g] = destination(deal, g);
-        g = g + 1;
+    for (g, entry) in places.iter_mut().enumerate() {
+        *entry = destination(deal, g);
     }
 }
 
@@ -131,10 +129,8 @@ fn dealt_byte(d: u16, k: usize) -> u8 {
 pub fn deal_cards(deal: Deal, b: usize, cards: &mut [u8])
     requires { 0 < b }
 {
-    let mut at: usize = 0;
-    while at < cards.len() {
+    for (at, x) in cards.iter_mut().enumerate() {
         let d = destination(deal, at / b);
-        cards[at] = dealt_byte(d, at % b);
-        at = at + 1;
+        *x = dealt_byte(d, at % b);
     }
 }

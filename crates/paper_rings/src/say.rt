@@ -1,10 +1,8 @@
 // What the jobs print.
+use std::io;
+use std::io::Write;
 
 // How many slots were wrong before and after a run.
-pub fn say_wrong(before: usize, after: usize) {
-    io::write_all(1, b" wrong slots ");
-    io::print_decimal(1, before as u64);
-    io::write_all(1, b" then ");
-    io::print_decimal(1, after as u64);
-    io::write_all(1, b"\n");
+pub fn say_wrong<W: Write>(out: &mut W, before: usize, after: usize) -> io::Result<()> {
+    writeln!(out, " wrong slots {before} then {after}")
 }

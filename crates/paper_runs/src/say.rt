@@ -1,24 +1,23 @@
 // What the cases print.
 use saying::parts::say_number;
+use std::io;
+use std::io::Write;
 
 // A number of a list of copies: from, then to.
-fn say_step(i: usize, x: u16) {
+fn say_step<W: Write>(out: &mut W, i: usize, x: u16) -> io::Result<()> {
     if i % 2 == 0 {
-        io::write_all(1, b" ");
-        say_number(x);
-        return;
+        out.write_all(b" ")?;
+    } else {
+        out.write_all(b">")?;
     }
-    io::write_all(1, b">");
-    say_number(x);
+    say_number(out, x)
 }
 
 // The whole of a lent list as copies.
-pub fn say_steps(lent: &[u16]) {
-    io::write_all(1, b" copies");
-    let mut i: usize = 0;
-    while i < lent.len() {
-        say_step(i, lent[i]);
-        i = i + 1;
+pub fn say_steps<W: Write>(out: &mut W, lent: &[u16]) -> io::Result<()> {
+    out.write_all(b" copies")?;
+    for (i, x) in lent.iter().enumerate() {
+        say_step(out, i, *x)?;
     }
-    io::write_all(1, b"\n");
+    out.write_all(b"\n")
 }

@@ -2,20 +2,12 @@
 use crate::say;
 use parsing::FileAnswer;
 use racks::Job;
+use std::io;
+use std::io::Write;
 
 // Whether the front of a list has these numbers.
 fn begins(list: &[u16], numbers: &[u16]) -> bool {
-    if list.len() < numbers.len() {
-        return false;
-    }
-    let mut i: usize = 0;
-    while i < numbers.len() {
-        if list[i] != numbers[i] {
-            return false;
-        }
-        i = i + 1;
-    }
-    true
+    list.starts_with(numbers)
 }
 
 // Whether a job, written, gives the bytes of a file.
@@ -25,7 +17,7 @@ fn written_same(file: &[u8], caps: &[u16], b: usize, places: &[u16], cards: &[u8
     if out.len() < found.size {
         return false;
     }
-    check::same(&out[..found.size], file)
+    &out[..found.size] == file
 }
 
 // Whether what was read is the job that was written, and gives the bytes of the file again.
@@ -43,26 +35,30 @@ fn same(
         return false;
     }
     let bytes = jobfile::card_bytes(file, found);
-    if check::same(bytes, cards) {
-        return written_same(
+    bytes == cards
+        && written_same(
             file,
             &read_caps[..found.racks],
             found.bytes,
             &read_places[..found.slots],
             bytes,
-        );
-    }
-    false
+        )
 }
 
 // Reads a file back and says how it compares; a refusal has no file.
-pub fn compare(out: &[u8], size: usize, caps: &[u16], places: &[u16], cards: &[u8]) {
+pub fn compare<W: Write>(
+    to: &mut W,
+    out: &[u8],
+    size: usize,
+    caps: &[u16],
+    places: &[u16],
+    cards: &[u8],
+) -> io::Result<()> {
     if size == 0 {
-        io::write_all(1, b"\n");
-        return;
+        return to.write_all(b"\n");
     }
     if out.len() < size {
-        return;
+        return Ok(());
     }
     let mut read_caps = [7u16; Job::MAX_RACKS];
     let mut read_places = [7u16; Job::MAX_SLOTS];
@@ -70,9 +66,8 @@ pub fn compare(out: &[u8], size: usize, caps: &[u16], places: &[u16], cards: &[u
     if begins(&read_caps, caps) {
         if begins(&read_places, places) {
             let good = same(&out[..size], found, &read_caps, &read_places, cards);
-            say::say_same(good);
-            return;
+            return say::say_same(to, good);
         }
     }
-    say::say_same(false);
+    say::say_same(to, false)
 }

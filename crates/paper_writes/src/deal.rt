@@ -20,18 +20,14 @@ fn entry(width: usize, g: usize) -> u16
 pub fn deal_places(width: usize, places: &mut [u16])
     requires { 0 < width }
 {
-    let mut g: usize = 0;
-    while g < places.len() {
-        places[g] = entry(width, g);
-        g = g + 1;
+    for (g, place) in places.iter_mut().enumerate() {
+        *place = entry(width, g);
     }
 }
 
 // Card bytes of which neighbours differ.
 pub fn deal_cards(cards: &mut [u8]) {
-    let mut i: usize = 0;
-    while i < cards.len() {
-        cards[i] = (i % 251) as u8;
-        i = i + 1;
+    for (i, x) in cards.iter_mut().enumerate() {
+        *x = (i % 251) as u8;
     }
 }

@@ -1,24 +1,25 @@
 // What a line of a case says.
 use answers::SizeAnswer;
+use std::io;
+use std::io::Write;
 
 // The number, the counts and the length.
-pub fn say_size(name: &[u8], found: SizeAnswer) {
-    saying::parts::say_answer(name, found.answer);
-    io::write_all(1, b" length ");
-    io::print_decimal(1, found.size as u64);
+pub fn say_size<W: Write>(to: &mut W, name: &[u8], found: SizeAnswer) -> io::Result<()> {
+    saying::parts::say_answer(to, name, found.answer)?;
+    let size = found.size;
+    write!(to, " length {size}")
 }
 
 // The bytes of a buffer.
-pub fn say_file(out: &[u8]) {
-    io::write_all(1, b" buffer");
-    saying::parts::say_hexes(out);
+pub fn say_file<W: Write>(to: &mut W, out: &[u8]) -> io::Result<()> {
+    to.write_all(b" buffer")?;
+    saying::parts::say_hexes(to, out)
 }
 
 // How a comparison came out.
-pub fn say_same(same: bool) {
+pub fn say_same<W: Write>(to: &mut W, same: bool) -> io::Result<()> {
     if same {
-        io::write_all(1, b", read back and written again: the same\n");
-        return;
+        return to.write_all(b", read back and written again: the same\n");
     }
-    io::write_all(1, b", read back and written again: DIFFERENT\n");
+    to.write_all(b", read back and written again: DIFFERENT\n")
 }

@@ -1,3 +1,0 @@
-pub mod Leaving
-pub mod Lending
-pub mod Passing
