@@ -187,10 +187,10 @@ pub fn count_in(places: &[u16], low: usize, n: u16, range: Range) -> u16
     ensures { result ≡ entries_in places.now range low n }
 {
     let mut found: u16 = 0;
-    let mut j: u16 = 0;
-    while j < n {
-        found = found + tables::parts::one_if(lies(range, places[low + j as usize]));
-        j = j + 1;
+    let mut k: u16 = 0;
+    while k < n {
+        found = found + tables::parts::one_if(lies(range, places[low + k as usize]));
+        k = k + 1;
     }
     found
 }

@@ -9,37 +9,37 @@ use Rattle.spans.proofs.Spans.{lies-read}
 use Rattle.spans.proofs.parts.count_in.Goals as goal
 use Rattle.spans.proofs.parts.count_in.Goals.{After-lies, After-one_if-found}
 
-pub loop-j-init : goal.loop-j-init
-loop-j-init c = (omega arith, sym (count_none _))
+pub loop-k-init : goal.loop-k-init
+loop-k-init c = (omega arith, sym (count_none _))
 
 pub lies-requires : goal.lies-requires
 lies-requires c = c.requires.1
 
 -- whether the entry lies in the range
 hit : (c : After-lies)
-    → c.lies.result ≡ entry_in c.args.places.now c.args.range (c.args.low + c.loop-j.j)
+    → c.lies.result ≡ entry_in c.args.places.now c.args.range (c.args.low + c.loop-k.k)
 hit c = c.lies.ensures ∙ lies-read _ _ _ (omega arith)
 
 -- what is added for it
 adds : (c : After-one_if-found)
-    → c.one_if-found.result ≡ bit (entry_in c.args.places.now c.args.range (c.args.low + c.loop-j.j))
+    → c.one_if-found.result ≡ bit (entry_in c.args.places.now c.args.range (c.args.low + c.loop-k.k))
 adds c = c.one_if-found.ensures ∙ ap bit ((c.lies.ensures ∙ lies-read _ _ _ (omega arith)))
 
 pub overflow_add-found : goal.overflow_add-found
 overflow_add-found c =
-    let l = c.loop-j in
+    let l = c.loop-k in
     let s = c.args in
-    omega (arith, bit_le _ (entry_in s.places.now s.range (s.low + l.j)) (adds c), l.invariant.1, count_le l.j (λ i. entry_in s.places.now s.range (s.low + i)))
+    omega (arith, bit_le _ (entry_in s.places.now s.range (s.low + l.k)) (adds c), l.invariant.1, count_le l.k (λ i. entry_in s.places.now s.range (s.low + i)))
 
-pub loop-j-preserved : goal.loop-j-preserved
-loop-j-preserved c =
-    let l = c.loop-j in
+pub loop-k-preserved : goal.loop-k-preserved
+loop-k-preserved c =
+    let l = c.loop-k in
     let s = c.args in
-    (omega arith, omega (arith, l.invariant.1, adds c, count-more l.j (λ i. entry_in s.places.now s.range (s.low + i))))
+    (omega arith, omega (arith, l.invariant.1, adds c, count-more l.k (λ i. entry_in s.places.now s.range (s.low + i))))
 
 pub returns : goal.returns
 unfolding entries_in
 returns c =
-    let l = c.loop-j in
-    let e : l.j ≡ c.args.n = omega arith in
+    let l = c.loop-k in
+    let e : l.k ≡ c.args.n = omega arith in
     rw e at l.invariant.1
