@@ -7,11 +7,11 @@ pub carry-after-requires : goal.carry-after-requires
 carry-after-requires c = let m = c.smaller-made.ensures in
     let p = c.plan_phase-planned.ensures in
     record {
-  sized = c.requires.sized;
-  within = (omega arith, made-fits c.args.ends.now c.args.b c.args.k c.args.tally (held c.args.places.now c.args.cards.now) c.args.racking.now c.args.line.now c.args.bits.now c.args.log.now _ _ _ _ _ c.requires p m);
-  slots = made-slots c.args.ends.now c.args.b c.args.k c.args.tally (held c.args.places.now c.args.cards.now) c.args.racking.now c.args.line.now c.args.bits.now c.args.log.now _ _ _ _ _ c.requires p m;
-  counted = made_counted c.args.ends.now c.args.b c.args.k c.args.tally (held c.args.places.now c.args.cards.now) c.args.racking.now c.args.line.now c.args.bits.now c.args.log.now _ _ _ _ _ c.requires p m;
-}
+      sized = c.requires.sized;
+      within = (omega arith, made-fits c.args.ends.now c.args.b c.args.k c.args.tally (held c.args.places.now c.args.cards.now) c.args.racking.now c.args.line.now c.args.bits.now c.args.log.now _ _ _ _ _ c.requires p m);
+      slots = made-slots c.args.ends.now c.args.b c.args.k c.args.tally (held c.args.places.now c.args.cards.now) c.args.racking.now c.args.line.now c.args.bits.now c.args.log.now _ _ _ _ _ c.requires p m;
+      counted = made_counted c.args.ends.now c.args.b c.args.k c.args.tally (held c.args.places.now c.args.cards.now) c.args.racking.now c.args.line.now c.args.bits.now c.args.log.now _ _ _ _ _ c.requires p m;
+    }
 
 pub note_moves-requires : goal.note_moves-requires
 note_moves-requires c = let m = c.smaller-made.ensures in

@@ -18,9 +18,9 @@ pub move_card-requires : goal.move_card-requires
 move_card-requires c = let l = c.loop-i in
     let ends = slots-first c.args.pairs.now l.i c.args.high c.requires.within.1 _ (omega arith) l.invariant.3 in
     record {
-  sized = cc;
-  slots = (omega arith, omega arith);
-}
+      sized = cc;
+      slots = (omega arith, omega arith);
+    }
 
 pub add_move-made-requires : goal.add_move-made-requires
 add_move-made-requires c = omega (arith, c.loop-i.invariant.5.counts-fit)

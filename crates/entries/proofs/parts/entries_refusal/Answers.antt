@@ -1,5 +1,4 @@
 use native.Mathlib.Omega.{arith}
-use Prim.Native.Nat.{◌-◌}
 use mathlib.Core.Path.{refl, ◌∙◌}
 use Rattle.racks.specs.Job.{racks_of}
 use Rattle.racks.proofs.Table.{read-dest}

@@ -1,6 +1,5 @@
 use Rattle.entries.proofs.Fills.{between_none, between_more, between_done}
 use native.Mathlib.Omega.{arith}
-use Prim.Native.Nat.{◌-◌}
 use Rattle.entries.proofs.parts.fill.Goals as goal
 
 pub loop-g-init : goal.loop-g-init

@@ -16,9 +16,9 @@ move_card-requires c =
     let z = c.if-refusal-ne0.false in
     let n = c.move_refusal-refusal.ensures in
     record {
-  sized = n.sized z;
-  slots = ((n.slots z).from_lt, (n.slots z).to_lt);
-}
+      sized = n.sized z;
+      slots = ((n.slots z).from_lt, (n.slots z).to_lt);
+    }
 
 pub returns : goal.returns
 unfolding moved_by

@@ -1,6 +1,5 @@
 -- `numerals::parts::next_numeral` meets its contract. Assumes nothing.
 use mathlib.Core.Path.{◌≡◌}
-use Prim.Native.Nat.{◌-◌}
 use Rattle.numerals.specs.Numeral.{groups, numeral}
 use Rattle.numerals.proofs.Groups.{Weighed}
 use Rattle.numerals.proofs.parts.next_numeral.Given as goal

@@ -1,6 +1,6 @@
 -- `parsing::parts::read_caps` meets its contract. Assumes nothing.
 use mathlib.Core.Path.{◌≡◌, ap, ◌∙◌}
-use Prim.Native.Nat.{◌+◌, ◌-◌, ◌≤◌}
+use Prim.Native.Nat.{◌+◌, ◌≤◌}
 use native.Mathlib.Omega.{arith}
 use Rattle.parsing.specs.parts.Parsing.{room_for}
 use Rattle.numerals.specs.parts.Bounds.{ranged}

@@ -1,7 +1,7 @@
 -- `parsing::parts::read_entries` meets its contract. Assumes nothing.
 use mathlib.Core.Path.{◌≡◌, ap}
 use lib.ListN.{take}
-use Prim.Native.Nat.{◌-◌, ◌<◌}
+use Prim.Native.Nat.{◌<◌}
 use native.Mathlib.Omega.{arith}
 use Rattle.racks.specs.Racks.{slots}
 use Rattle.racks.specs.Job.{racks_of}

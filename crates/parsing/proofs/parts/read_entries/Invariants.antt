@@ -1,6 +1,5 @@
 -- `parsing::parts::read_entries` meets its contract. Assumes nothing.
 use Prim.Native.Nat.{◌-◌}
-use Rattle.racks.specs.Racks.{slots}
 use Rattle.racks.specs.Job.{racks_of}
 use Rattle.parsing.proofs.Entries.{Entering}
 use Rattle.parsing.proofs.parts.read_entries.Given as goal

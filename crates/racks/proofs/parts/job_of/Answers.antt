@@ -6,7 +6,7 @@ use lib.ListN.{length-set}
 use Rattle.racks.proofs.Caps.{length-caps, racks-few, base-caps, spare-caps, base-small}
 use Rattle.racks.proofs.Jobs.{laid_more, laid-spares, laid-ends}
 use native.Mathlib.Omega.{arith}
-use Prim.Native.Nat.{◌+◌, ◌-◌, ◌≤◌}
+use Prim.Native.Nat.{◌+◌, ◌≤◌}
 use mathlib.Core.Path.{◌≡◌, refl, sym, ap, ◌∙◌}
 use lib.ListN.{length, get_or}
 use Rattle.racks.specs.Racks.{of_caps, base}

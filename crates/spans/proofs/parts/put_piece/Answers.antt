@@ -13,9 +13,9 @@ pub put_hits-requires : goal.put_hits-requires
 put_hits-requires c =
     let w = lowest-within _ _ _ _ _ c.look-here.ensures in
     let m = c.smaller-end.ensures in record {
-  low_in_bounds = (omega (arith, w, c.requires.0.within), omega (arith, c.requires.0.small), c.requires.0.fits, omega arith, omega (arith, m, c.requires.1), omega (arith, m, c.requires.0.room));
-  k_in_bounds = piece-enough _ _ _ _ _ c.look-here.ensures c.requires.0.within _ (omega (arith, m));
-}
+      low_in_bounds = (omega (arith, w, c.requires.0.within), omega (arith, c.requires.0.small), c.requires.0.fits, omega arith, omega (arith, m, c.requires.1), omega (arith, m, c.requires.0.room));
+      k_in_bounds = piece-enough _ _ _ _ _ c.look-here.ensures c.requires.0.within _ (omega (arith, m));
+    }
 
 pub returns : goal.returns
 returns c =

@@ -1,5 +1,4 @@
 use native.Mathlib.Omega.{arith}
-use Prim.Native.Nat.{◌-◌}
 use mathlib.Core.Path.{◌∙◌}
 use Rattle.racks.proofs.Passing.{Bounds, at_first, at_bounds, at_next, at-behind}
 use Rattle.tables.proofs.Fills.{filled_more}

@@ -1,6 +1,6 @@
 use native.Mathlib.Omega.{arith}
 use mathlib.Core.Path.{◌≡◌}
-use Prim.Native.Nat.{suc, ◌+◌, ◌-◌, ◌<◌}
+use Prim.Native.Nat.{suc, ◌+◌, ◌<◌}
 use lib.ListN.{get_or}
 use Rattle.racks.specs.Racks.{base}
 use Rattle.racks.specs.Job.{racks_of}

@@ -28,6 +28,6 @@ pub returns : goal.returns
 returns c =
     let l = c.loop-k in
     record {
-  count = counting-end _ _ l.k _ _ _ l.invariant.1 (omega arith);
-  marks = unmarked-other LISTED COUNTED (λ e. omega arith) _ _ _ c.requires.3 l.invariant.1.progress.marks;
-}
+      count = counting-end _ _ l.k _ _ _ l.invariant.1 (omega arith);
+      marks = unmarked-other LISTED COUNTED (λ e. omega arith) _ _ _ c.requires.3 l.invariant.1.progress.marks;
+    }

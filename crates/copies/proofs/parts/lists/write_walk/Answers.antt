@@ -18,9 +18,9 @@ returns-then-end-eq-FREE c =
     let q = c.if-end-eq-FREE.true in
     let w = c.write_chain.ensures in
     record {
-  counts = plus-shift _ c.args.left _ q _ w.counts;
-  copies = wrote-shift _ _ c.args.left _ q _ _ _ w.copies;
-}
+      counts = plus-shift _ c.args.left _ q _ w.counts;
+      copies = wrote-shift _ _ c.args.left _ q _ _ _ w.copies;
+    }
 
 pub put_copy-requires : goal.put_copy-requires
 put_copy-requires c =
@@ -54,6 +54,6 @@ returns c =
     let q = c.if-end-eq-FREE.false in
     let h = c.add_copy-held.ensures in
     let w = c.write_chain-shifted.ensures in record {
-  counts = plus-hand _ c.args.left _ q _ _ _ h w.counts c.add_copy.ensures;
-  copies = wrote-hand _ _ c.args.left _ q _ _ _ _ _ _ _ _ refl (plus-count _ _ 1 h) (plus-count _ _ _ w.counts) c.put_copy.ensures w.copies c.put_copy-2.ensures;
-}
+      counts = plus-hand _ c.args.left _ q _ _ _ h w.counts c.add_copy.ensures;
+      copies = wrote-hand _ _ c.args.left _ q _ _ _ _ _ _ _ _ refl (plus-count _ _ 1 h) (plus-count _ _ _ w.counts) c.put_copy.ensures w.copies c.put_copy-2.ensures;
+    }

@@ -27,12 +27,11 @@ room : (c : After-smaller-stop) → 2 * c.smaller-stop.result ≤ length c.args.
 room c = omega (arith, c.smaller-stop.ensures, c.requires.2)
 
 pub put_span-below-requires : goal.put_span-below-requires
-put_span-below-requires c =
-    (
-      omega arith,
-      record { within = omega (arith, c.requires.0.up, c.requires.0.within); small = c.requires.0.small; fits = fits (goal.at.put_span-below-requires c).After-of-range; room = room (goal.at.put_span-below-requires c).After-smaller-stop },
-      up (goal.at.put_span-below-requires c).After-smaller-stop,
-    )
+put_span-below-requires c = (
+  omega arith,
+  record { within = omega (arith, c.requires.0.up, c.requires.0.within); small = c.requires.0.small; fits = fits (goal.at.put_span-below-requires c).After-of-range; room = room (goal.at.put_span-below-requires c).After-smaller-stop },
+  up (goal.at.put_span-below-requires c).After-smaller-stop,
+)
 
 pub put_span-above-requires : goal.put_span-above-requires
 put_span-above-requires c =
@@ -51,7 +50,7 @@ pub put_hits-requires : goal.put_hits-requires
 put_hits-requires c =
     let p = c.put_span-below.ensures in
     let q = c.put_span-above.ensures in record {
-  low_in_bounds = (
+      low_in_bounds = (
         omega (arith, c.requires.0.up, c.requires.0.within),
         omega (arith, c.requires.0.small),
         free-fits _ c.free-2.ensures,
@@ -59,8 +58,8 @@ put_hits-requires c =
         omega (arith, p.next-is, q.next-is),
         omega (arith, put-long p, put-long q, room (goal.at.put_hits-requires c).After-smaller-stop, put_up _ _ _ _ (put_up _ _ _ _ (up (goal.at.put_hits-requires c).After-smaller-stop) p) q),
       );
-  k_in_bounds = target-enough _ _ _ _ _ _ (stop_is (goal.at.put_hits-requires c).After-smaller-stop) c.requires.1 _ c.of-range.ensures _ _ _ _ _ p q c.requires.0.up c.requires.0.within _ c.free-2.ensures;
-}
+      k_in_bounds = target-enough _ _ _ _ _ _ (stop_is (goal.at.put_hits-requires c).After-smaller-stop) c.requires.1 _ c.of-range.ensures _ _ _ _ _ p q c.requires.0.up c.requires.0.within _ c.free-2.ensures;
+    }
 
 pub returns : goal.returns
 returns c =

@@ -26,6 +26,6 @@ pub returns : goal.returns
 returns c =
     let e = c.list_copies-tally.ensures in
     record {
-  text = rw (copies-read c.args.places.now _ _ c.requires.2 e.copies _ (count (goal.at.returns c).After-list_copies-tally)) at c.put_copies.ensures;
-  marks = e.marks;
-}
+      text = rw (copies-read c.args.places.now _ _ c.requires.2 e.copies _ (count (goal.at.returns c).After-list_copies-tally)) at c.put_copies.ensures;
+      marks = e.marks;
+    }

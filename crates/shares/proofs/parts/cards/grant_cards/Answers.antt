@@ -54,8 +54,7 @@ overflow_add-g c = omega (arith, sound-slots _ c.requires.sound.0, c.requires.so
 pub loop-g-preserved : goal.loop-g-preserved
 loop-g-preserved c =
     let l = c.loop-g in
-    let o = c.requires.sound in
-    (
+    let o = c.requires.sound in (
       granting-more _ _ _ o.1 o.2 o.0.small o.0.few _ _ _ _ _ _ (omega (arith, sound-slots _ o.0)) c.requires.shared.0.stopped (room (goal.at.loop-g-preserved c).Else-put-pairs) (left (goal.at.loop-g-preserved c).Else-put-pairs) l.invariant.0 _ _ _ c.grant_card.ensures,
       omega arith,
     )

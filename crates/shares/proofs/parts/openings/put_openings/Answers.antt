@@ -39,14 +39,14 @@ pub put_free-requires : goal.put_free-requires
 put_free-requires c =
     let l = c.loop-p in
     let n = at_bounds c.requires.0 l.invariant.0 (omega arith) in record {
-  low_in_bounds = (
+      low_in_bounds = (
         omega (arith, n.up, n.within, c.requires.1.long),
         omega (arith, c.requires.1.long, c.requires.0.small),
         stop-up _ c.requires.0 _ c.requires.1 _ _ l.invariant.0 (omega arith) _ c.requires.2 _ _ _ l.invariant.1,
         omega (arith, few (goal.at.put_free-requires c).In-loop-p, openings-long l.invariant.1, c.requires.3),
       );
-  k_in_bounds = open-enough _ c.requires.0 _ c.requires.1 _ _ l.invariant.0 (omega arith) _ c.requires.2 _ _ _ l.invariant.1;
-}
+      k_in_bounds = open-enough _ c.requires.0 _ c.requires.1 _ _ l.invariant.0 (omega arith) _ c.requires.2 _ _ _ l.invariant.1;
+    }
 
 pub offset_bounds-job-p : goal.offset_bounds-job-p
 offset_bounds-job-p c = omega (arith, rack (goal.at.offset_bounds-job-p c).In-loop-p)
@@ -59,8 +59,7 @@ overflow_cast-low c = omega (arith, (at_bounds c.requires.0 c.loop-p.invariant.0
 
 pub loop-p-preserved : goal.loop-p-preserved
 loop-p-preserved c =
-    let l = c.loop-p in
-    (
+    let l = c.loop-p in (
       at_next c.requires.0 l.invariant.0 (omega arith),
       openings-more _ c.requires.0 _ c.requires.1 _ _ l.invariant.0 (omega arith) _ c.requires.2 _ _ _ l.invariant.1 _ c.put_free.ensures,
     )
