@@ -32,10 +32,10 @@
  * largest jobs, with half a KB to spare, rounded up to whole KB of 1,024 bytes:
  *
  *     limits                                   1
- *     check_table, slot_question              10
- *     phase_plan, write_file                  11
+ *     check_table, write_file                 10
+ *     slot_question, phase_plan               11
  *     read_file, one_move                     14
- *     budgeted_moves                          32
+ *     budgeted_moves                          40
  *     copy_list                               29
  *     shuffle_cards                           34
  *     whole_run                               48
@@ -88,10 +88,10 @@ extern "C" {
  * card bytes of a file begin was `place` then, and is `start`: a caller that reads `place` for it still
  * compiles, and has to be changed.
  */
-#define SEINEFLUTE_VERSION "0.5.1"
+#define SEINEFLUTE_VERSION "0.5.0"
 #define SEINEFLUTE_VERSION_MAJOR 0
 #define SEINEFLUTE_VERSION_MINOR 5
-#define SEINEFLUTE_VERSION_PATCH 1
+#define SEINEFLUTE_VERSION_PATCH 0
 
 /* Limits. */
 enum {

@@ -107,10 +107,10 @@
 //! | call | KB |
 //! |---|---|
 //! | `limits` | 1 |
-//! | `check_table`, `slot_question` | 10 |
-//! | `phase_plan`, `write_file` | 11 |
+//! | `check_table`, `write_file` | 10 |
+//! | `slot_question`, `phase_plan` | 11 |
 //! | `read_file`, `one_move` | 14 |
-//! | `budgeted_moves` | 32 |
+//! | `budgeted_moves` | 40 |
 //! | `copy_list` | 29 |
 //! | `shuffle_cards` | 34 |
 //! | `whole_run` | 48 |
