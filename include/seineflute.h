@@ -88,10 +88,10 @@ extern "C" {
  * card bytes of a file begin was `place` then, and is `start`: a caller that reads `place` for it still
  * compiles, and has to be changed.
  */
-#define SEINEFLUTE_VERSION "0.5.0"
+#define SEINEFLUTE_VERSION "0.5.1"
 #define SEINEFLUTE_VERSION_MAJOR 0
 #define SEINEFLUTE_VERSION_MINOR 5
-#define SEINEFLUTE_VERSION_PATCH 0
+#define SEINEFLUTE_VERSION_PATCH 1
 
 /* Limits. */
 enum {

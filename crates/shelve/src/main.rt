@@ -1,7 +1,7 @@
 // shelve: lists the run of the job file on standard input.
 #![tactic(auto)]
 
-ghost use Rattle.std.specs.Prelude.{◌≡◌, ◌<◌, ◌≤◌, IfOk, length, take};
+ghost use Rattle.std.specs.Prelude.{◌≡◌, ◌≤◌, IfOk, length, take};
 ghost use Rattle.listing.specs.Listing.{ENOUGH, listing};
 
 use std::io;
@@ -47,7 +47,7 @@ fn read_full<R: Read>(input: &mut R, buffer: &mut [u8]) -> io::Result<usize>
             Err(e) => return Err(e),
         }
     }
-    Err(io::Error::from(ErrorKind::Interrupted))
+    Ok(n)
 }
 
 // Whether the input has ended.
@@ -56,17 +56,16 @@ fn has_ended<R: Read>(input: &mut R) -> io::Result<bool> {
     Ok(read_full(input, &mut more)? == 0)
 }
 
-// The input at the front of the buffer; gives how many bytes it has, and the buffer's length where it does not end before the last of them.
+// The input at the front of the buffer, or as much of it as there is room for; gives how many bytes of it are there. An input that goes on behind
+// its end, as a terminal may, is refused.
 fn read_file<R: Read>(input: &mut R, file: &mut [u8]) -> io::Result<usize>
-    requires { 0 < length file.old }
     ensures { IfOk result (λ n. n ≤ length file.new) }
 {
-    let most = file.len() - 1;
-    let n = read_full(input, &mut file[..most])?;
-    if has_ended(input)? {
-        return Ok(n);
+    let n = read_full(input, file)?;
+    if n < file.len() && !has_ended(input)? {
+        return Err(io::Error::from(ErrorKind::InvalidInput));
     }
-    Ok(file.len())
+    Ok(n)
 }
 
 // One byte more than a file may have is enough to see that it has too many.
