@@ -157,6 +157,11 @@ fn refusals<W: Write>(to: &mut W) -> io::Result<()> {
         b"abc",
         &mut [7; 9],
     )?;
+    short_buffers(to)
+}
+
+// Case 10 into a buffer that is a byte too short, and into one that is just long enough.
+fn short_buffers<W: Write>(to: &mut W) -> io::Result<()> {
     show(
         to,
         b"case 10 in 4 bytes",

@@ -8,38 +8,16 @@ use native.Mathlib.Nat.{add-zero, add-suc, suc-add}
 use native.Mathlib.Decide.{ℕ_discrete}
 use lib.ListN.{length, set, length-set}
 use lib.Seq.{sets, set-set, set_comm}
-use Rattle.counting.specs.Lists.{Pair, tabulate, join, pair_up, flat}
+use Rattle.counting.specs.Lists.{Pair, tabulate, join, pair_up, flat, column}
+use Rattle.counting.proofs.Columns.{column-none, column-more, column-over, column-append, column-long, columns-flat}
 use Rattle.counting.proofs.Lists.{join_more}
 use Rattle.counting.proofs.Stores.{sets-flat-none, sets-flat-append}
-use Rattle.shares.specs.parts.Columns.{column, columns}
-
--- no number stored
-pub column-none : (side : ℕ) (l : List ℕ) (k : ℕ) → column side l k [] ≡ l
-unfolding column
-column-none side l k = refl
-
--- one number stored, and the others behind it
-pub column-more : (side : ℕ) (l : List ℕ) (k x : ℕ) (xs : List ℕ) → column side l k (x ∷ xs) ≡ column side (set l (2 * k + side) x) (suc k) xs
-unfolding column
-column-more side l k x xs = refl
+use Rattle.shares.specs.parts.Columns.{columns}
 
 -- what stood in the place of the first does not matter
-pub column-over : (side : ℕ) (l : List ℕ) (k v : ℕ) (xs : List ℕ) → 0 < length xs → column side (set l (2 * k + side) v) k xs ≡ column side l k xs
-unfolding column
-column-over side l k v [] h = absurd (omega arith)
-column-over side l k v (x ∷ xs) h = rw (set-set l (2 * k + side) v x)
-
--- numbers stored, and others behind them
-column-append : (side : ℕ) (l : List ℕ) (k : ℕ) (a b : List ℕ) → column side l k (a ++ b) ≡ column side (column side l k a) (k + length a) b
-unfolding column
-column-append side l k [] b = rw add-zero
-column-append side l k (x ∷ a) b = rw (add-suc k (length a), ← suc-add k (length a)) (column-append side (set l (2 * k + side) x) (suc k) a b)
-
--- the list keeps its length
-column-long : (side : ℕ) (l : List ℕ) (k : ℕ) (xs : List ℕ) → length (column side l k xs) ≡ length l
-unfolding column
-column-long side l k [] = refl
-column-long side l k (x ∷ xs) = column-long side (set l (2 * k + side) x) (suc k) xs ∙ length-set l (2 * k + side) x
+pub over : (side : ℕ) (l : List ℕ) (k v : ℕ) (xs : List ℕ) → 0 < length xs → column side (set l (2 * k + side) v) k xs ≡ column side l k xs
+over side l k v [] h = absurd (omega arith)
+over side l k v (x ∷ xs) h = column-over side l k v x xs
 
 -- a store before the column's first number may come first
 column-set : (side : ℕ) (l : List ℕ) (k : ℕ) (xs : List ℕ) (j y : ℕ) → j < 2 * k → set (column side l k xs) j y ≡ column side (set l j y) k xs
@@ -48,20 +26,6 @@ column-set side l k [] j y h = refl
 column-set side l k (x ∷ xs) j y h =
     column-set side (set l (2 * k + side) x) (suc k) xs j y (omega arith)
     ∙ ap (λ (m : List ℕ). column side m (suc k) xs) (set_comm l (2 * k + side) j x y (λ e. omega arith))
-
--- the two columns of as many pairs: the pairs
-column-pairs : (l : List ℕ) (k : ℕ) (xs ys : List ℕ) → length xs ≡ length ys → column 1 (column 0 l k xs) k ys ≡ sets l (2 * k) (flat (pair_up xs ys))
-unfolding column pair_up flat
-column-pairs l k [] [] e = refl
-column-pairs l k [] (y ∷ ys) e = absurd (omega arith)
-column-pairs l k (x ∷ xs) [] e = absurd (omega arith)
-column-pairs l k (x ∷ xs) (y ∷ ys) e =
-    let z : 2 * k + 0 ≡ 2 * k = omega arith in
-    let o : 2 * k + 1 ≡ suc (2 * k) = omega arith in
-    let t : 2 * suc k ≡ suc (suc (2 * k)) = omega arith in
-    ap (λ (m : List ℕ). column 1 m (suc k) ys) (column-set 0 (set l (2 * k + 0) x) (suc k) xs (2 * k + 1) y (omega arith))
-    ∙ column-pairs (set (set l (2 * k + 0) x) (2 * k + 1) y) (suc k) xs ys (omega arith)
-    ∙ rw (z, o, t)
 
 -- of none
 pub columns-zero : (side : ℕ) (starts : ℕ → ℕ) (numbers : ℕ → List ℕ) (l : List ℕ) → columns side 0 starts numbers l ≡ l
@@ -130,5 +94,5 @@ module _ (starts : ℕ → ℕ) (xs ys : ℕ → List ℕ) (pairs : ℕ → List
   columns-pairs zero = sym (unfold tabulate join in sets-flat-none l 0)
   columns-pairs (suc n) =
       rw (columns-behind n starts ys (columns 0 n starts xs l) (starts n) (xs n) (λ p m. rise p n m))
-      (column-pairs (columns 1 n starts ys (columns 0 n starts xs l)) (starts n) (xs n) (ys n) (even n)
+      (columns-flat (columns 1 n starts ys (columns 0 n starts xs l)) (starts n) (xs n) (ys n) (even n)
       ∙ rw (columns-pairs n, starts-are n, are n, join_more n pairs) (sym (sets-flat-append l (join (tabulate n pairs)) (pairs n))))

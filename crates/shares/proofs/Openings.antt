@@ -19,10 +19,12 @@ use Rattle.racks.specs.parts.Legal.{Legal}
 use Rattle.racks.proofs.Passing.{At, at_bounds}
 use Rattle.plans.specs.Plan.{open_slots}
 use Rattle.plans.proofs.Grants.{length_open, length-plan_for}
-use Rattle.shares.specs.parts.Columns.{column, columns}
+use Rattle.counting.specs.Lists.{column}
+use Rattle.shares.specs.parts.Columns.{columns}
 use Rattle.shares.specs.parts.Shares.{share_of, start_of, opens_to, Stopped}
 use Rattle.shares.proofs.Targets.{opens-from}
-use Rattle.shares.proofs.Columns.{column-none, column-more, column-over, columns-zero, columns-suc, columns-long}
+use Rattle.counting.proofs.Columns.{column-none, column-more}
+use Rattle.shares.proofs.Columns.{over, columns-zero, columns-suc, columns-long}
 use Rattle.shares.proofs.Shares.{start-zero, stop_is}
 
 -- free slots put one at a time: those of a table from g on, as the second numbers of the pairs from next up to stop, make the list all
@@ -69,7 +71,7 @@ module _ (f : ℕ → Bool) (size : ℕ) (all : List ℕ) (stop : ℕ) (lent : L
           up = w.up;
           within = opening_in l;
           enough = h;
-          same = column-over 1 lent next g (take (stop - next) rest) (omega (arith, length-take (stop - next) rest)) ∙ rw x at w.same;
+          same = over 1 lent next g (take (stop - next) rest) (omega (arith, length-take (stop - next) rest)) ∙ rw x at w.same;
         }
 
     -- as the code goes on

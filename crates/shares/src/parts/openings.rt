@@ -1,7 +1,8 @@
 // The free slots of the plan: those that a target's cards take, put into its share of the list.
 ghost use Rattle.std.specs.Prelude.{◌≡◌, ◌-◌, ◌*◌, ◌≤◌, length, take};
 ghost use Rattle.counting.specs.Count.{select_from};
-ghost use Rattle.shares.specs.parts.Columns.{column, columns};
+ghost use Rattle.counting.specs.Lists.{column};
+ghost use Rattle.shares.specs.parts.Columns.{columns};
 ghost use Rattle.racks.specs.Job.{racks_of, Sound};
 ghost use Rattle.racks.specs.Table.{free};
 ghost use Rattle.racks.specs.parts.Legal.{Legal};

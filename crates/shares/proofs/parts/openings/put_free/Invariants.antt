@@ -2,7 +2,7 @@ use mathlib.Core.Path.{◌≡◌}
 use Prim.Native.Nat.{◌-◌}
 use lib.ListN.{length, take}
 use Rattle.counting.specs.Count.{select_from}
-use Rattle.shares.specs.parts.Columns.{column}
+use Rattle.counting.specs.Lists.{column}
 use Rattle.racks.specs.Table.{free}
 use Rattle.shares.proofs.Openings.{Opening}
 use Rattle.shares.proofs.parts.openings.put_free.Given as goal
