@@ -18,36 +18,33 @@ returns-then-n-gt-MAX_RACKS c =
     let racks = of_caps c.args.caps.now in
     checks-1 racks (count-many racks (omega (arith, length-caps c.args.caps.now)))
 
-pub loop-p-init : goal.loop-p-init
-loop-p-init c = (omega arith, sym (sum-zero _), omega arith, λ k l. absurd (omega arith))
-
-pub overflow_cast-m : goal.overflow_cast-m
-overflow_cast-m c = omega (arith, c.shared_slice_known-1.given c.loop-p.p)
+pub loop-m-init : goal.loop-m-init
+loop-m-init c = (sym (sum-zero _), omega arith, λ k l. absurd (omega arith))
 
 pub returns-then-m-gt-MAX_USERS : goal.returns-then-m-gt-MAX_USERS
 returns-then-m-gt-MAX_USERS c =
     let caps = c.args.caps.now in
     let racks = of_caps caps in
-    let u : users racks c.loop-p.p ≡ get_or caps c.loop-p.p 0 = users-caps caps c.loop-p.p (omega arith) in
+    let u : users racks c.loop-m.m-index ≡ get_or caps c.loop-m.m-index 0 = users-caps caps c.loop-m.m-index (omega arith) in
     checks-3 racks (count-good racks (λ e. c.if-n-eq0.false (sym (length-caps caps) ∙ e)) (omega (arith, length-caps caps)))
-    (size-rack racks c.loop-p.p (omega (arith, length-caps caps)) (omega (arith, u)))
+    (size-rack racks c.loop-m.m-index (omega (arith, length-caps caps)) (omega (arith, u)))
 
-pub loop-p-preserved : goal.loop-p-preserved
-loop-p-preserved c =
+pub loop-m-preserved : goal.loop-m-preserved
+loop-m-preserved c =
     let caps = c.args.caps.now in
-    let u : users (of_caps caps) c.loop-p.p ≡ get_or caps c.loop-p.p 0 = users-caps caps c.loop-p.p (omega arith) in
-    (omega arith, omega (arith, sum_more c.loop-p.p (users (of_caps caps)), c.loop-p.invariant.1), omega arith, below_more (λ k. users (of_caps caps) k ≤ 1023) c.loop-p.p c.loop-p.invariant.3 (omega arith))
+    let u : users (of_caps caps) c.loop-m.m-index ≡ get_or caps c.loop-m.m-index 0 = users-caps caps c.loop-m.m-index (omega arith) in
+    (omega (arith, sum_more c.loop-m.m-index (users (of_caps caps)), c.loop-m.invariant.0), omega arith, below_more (λ k. users (of_caps caps) k ≤ 1023) c.loop-m.m-index c.loop-m.invariant.2 (omega arith))
 
 pub returns-then-total-gt-MAX_TOTAL : goal.returns-then-total-gt-MAX_TOTAL
 returns-then-total-gt-MAX_TOTAL c =
     let caps = c.args.caps.now in
     let racks = of_caps caps in
     checks-3 racks (count-good racks (λ e. c.if-n-eq0.false (sym (length-caps caps) ∙ e)) (omega (arith, length-caps caps)))
-    (size-all racks (omega (arith, c.loop-p.invariant.1, total-is racks c.loop-p.p (omega (arith, length-caps caps)))))
+    (size-all racks (omega (arith, c.loop-m.invariant.0, total-is racks c.loop-m.m-index (omega (arith, length-caps caps)))))
 
 pub returns : goal.returns
 returns c =
     let caps = c.args.caps.now in
     let racks = of_caps caps in
     checks-0 racks (count-good racks (λ e. c.if-n-eq0.false (sym (length-caps caps) ∙ e)) (omega (arith, length-caps caps)))
-    (size-good racks (λ k h. c.loop-p.invariant.3 k (omega (arith, length-caps caps))) (omega (arith, c.loop-p.invariant.1, total-is racks c.loop-p.p (omega (arith, length-caps caps)))))
+    (size-good racks (λ k h. c.loop-m.invariant.2 k (omega (arith, length-caps caps))) (omega (arith, c.loop-m.invariant.0, total-is racks c.loop-m.m-index (omega (arith, length-caps caps)))))

@@ -4,8 +4,5 @@ use Rattle.counting.specs.Count.{sum}
 use Rattle.racks.specs.Racks.{of_caps, users}
 use Rattle.racks.proofs.parts.racks_number.Given as goal
 
-abbrev pub invariant-loop-p : goal.invariant-loop-p
-invariant-loop-p l = (l.p ≤ l.n) × (l.total ≡ sum l.p (users (of_caps l.caps))) × (l.total ≤ 1023 * l.p) × ((k : ℕ) → k < l.p → users (of_caps l.caps) k ≤ 1023)
-
-abbrev pub decreases-loop-p : goal.decreases-loop-p
-decreases-loop-p l = l.n - l.p
+abbrev pub invariant-loop-m : goal.invariant-loop-m
+invariant-loop-m l = (l.total ≡ sum l.m-index (users (of_caps l.caps))) × (l.total ≤ 1023 * l.m-index) × ((k : ℕ) → k < l.m-index → users (of_caps l.caps) k ≤ 1023)
