@@ -6,36 +6,39 @@ use lib.ListN.{length-set}
 use Rattle.racks.proofs.Caps.{length-caps, racks-few, base-caps, spare-caps, base-small}
 use Rattle.racks.proofs.Jobs.{laid_more, laid-spares, laid-ends}
 use native.Mathlib.Omega.{arith}
-use Prim.Native.Nat.{◌+◌, ◌≤◌}
+use Prim.Native.Nat.{ℕ, ◌+◌, ◌≤◌, ◌<◌}
+use mathlib.Core.List.{List}
+use Rattle.counting.specs.Checks.{first}
+use Rattle.racks.specs.Numbers.{rack_checks}
 use mathlib.Core.Path.{◌≡◌, refl, sym, ap, ◌∙◌}
 use lib.ListN.{length, get_or}
 use Rattle.racks.specs.Racks.{of_caps, base}
 use Rattle.racks.proofs.Jobs.{laid_none}
 use Rattle.racks.proofs.Geometry.{base-zero}
 use Rattle.racks.proofs.parts.job_of.Goals as goal
-use Rattle.racks.proofs.parts.job_of.Goals.{In-loop-p, Start}
+use Rattle.racks.proofs.parts.job_of.Goals.{Start}
 
 few : (c : Start) → length c.args.caps.now ≤ 64
 few c = omega (arith, length-caps c.args.caps.now, racks-few (of_caps c.args.caps.now) c.requires)
 
-small : (c : In-loop-p) → c.loop-p.end + get_or c.args.caps.now c.loop-p.p 0 + 1 ≤ 4096
-small c =
-    omega (arith, c.loop-p.invariant.0, base-small c.args.caps.now c.loop-p.p c.requires (omega arith))
+-- a rack's slots, with its spare, fit a word
+small : (caps : List ℕ) (p end : ℕ) → first (rack_checks (of_caps caps)) ≡ 0 → p < length caps → end ≡ base (of_caps caps) p → end + get_or caps p 0 + 1 ≤ 4096
+small caps p end good l e = omega (arith, e, base-small caps p good l)
 
 pub loop-p-init : goal.loop-p-init
 loop-p-init c = (sym (base-zero _), refl, refl, laid_none _)
 
 pub overflow_add-spares : goal.overflow_add-spares
-overflow_add-spares c = omega (arith, small c)
+overflow_add-spares c = omega (arith, small c.args.caps.now c.loop-p.p c.loop-p.end c.requires (omega arith) c.loop-p.invariant.0)
 
 pub bounds-spares-p : goal.bounds-spares-p
 bounds-spares-p c = omega (arith, few (goal.at.bounds-spares-p c).Start)
 
 pub overflow_add-end : goal.overflow_add-end
-overflow_add-end c = omega (arith, small (goal.at.overflow_add-end c).In-loop-p)
+overflow_add-end c = omega (arith, small c.args.caps.now c.loop-p.p c.loop-p.end c.requires (omega arith) c.loop-p.invariant.0)
 
 pub overflow_add-end-in-loop-p : goal.overflow_add-end-in-loop-p
-overflow_add-end-in-loop-p c = omega (arith, small (goal.at.overflow_add-end-in-loop-p c).In-loop-p)
+overflow_add-end-in-loop-p c = omega (arith, small c.args.caps.now c.loop-p.p c.loop-p.end c.requires (omega arith) c.loop-p.invariant.0)
 
 pub bounds-ends-p : goal.bounds-ends-p
 bounds-ends-p c = omega (arith, few (goal.at.bounds-ends-p c).Start)
