@@ -1,14 +1,18 @@
 -- The contracts of this layer allow one outcome each. Assumes nothing.
-use mathlib.Core.Path.{refl}
+use mathlib.Core.Path.{◌≡◌, refl, ap, sym, ◌∙◌}
 use mathlib.Core.List.{List}
 use Prim.Native.Nat.{ℕ}
+use lib.Dec.{eqb}
+use Rattle.counting.specs.Tests.{pick}
 use Rattle.counting.specs.One.{One}
+use Rattle.answers.proofs.Answers.{refuses}
 use Rattle.counting.proofs.One.{one-is, one_by}
-use Rattle.answers.specs.Answers.{Listed, listed_of, Sized, sized_of, TallyNone, TallyOfMoves, TallyOfCopies, RefusalOf, AnswerRefused, AnswerOf, AnswerDone}
+use Rattle.answers.specs.Answers.{Listed, listed_of, Sized, sized_of, SizeAnswer, Refusal, refusal_of, answered, TallyNone, TallyOfMoves, TallyOfCopies, NumberOf, PlaceOf, AnswerRefused, AnswerDone, AnswerGiven}
 use Rattle.answers.specs.declared.Tally.{Tally}
-use Rattle.answers.specs.declared.Refusal.{Refusal}
+use Rattle.answers.specs.declared.Refusal as given
+use Rattle.answers.specs.declared.Refusal.TheVariants as case
 use Rattle.answers.specs.declared.Answer.{Answer}
-use Rattle.answers.specs.declared.SizeAnswer.{SizeAnswer}
+use Rattle.std.specs.Prelude.{Result, Ok, Err}
 
 -- an answer with a lent list
 pub listed-one : {allowed : Listed → Type 0} → One allowed → One (λ ((r, lent) : Answer × List ℕ). allowed (listed_of r lent))
@@ -28,14 +32,74 @@ tally_of-moves-one moves = one-is _
 pub tally_of-copies-one : (copies : ℕ) → One (TallyOfCopies copies)
 tally_of-copies-one copies = one-is _
 
-pub refusal_of-one : (n : ℕ) → One (RefusalOf n)
-refusal_of-one n = one-is _
+pub number_of-one : (refusal : given.Refusal) → One (NumberOf refusal)
+number_of-one refusal = one-is _
 
-pub answer-refused-one : (refusal : Refusal) → One (AnswerRefused refusal)
+pub place_of-one : (refusal : given.Refusal) → One (PlaceOf refusal)
+place_of-one refusal = one-is _
+
+pub answer-refused-one : (refusal : given.Refusal) → One (AnswerRefused refusal)
 answer-refused-one refusal = one-is _
-
-pub answer_of-one : (n : ℕ) → One (AnswerOf n)
-answer_of-one n = one-is _
 
 pub answer-done-one : (tally : Tally) → One (AnswerDone tally)
 answer-done-one tally = one-is _
+
+pub answer-given-one : (r : Result Tally given.Refusal) → One (AnswerGiven r)
+answer-given-one r = one-is _
+
+-- the refusal that a number and its place tell
+case_of : Refusal → given.Refusal
+case_of x =
+    pick (eqb x.number 1) case.BadCount
+    (pick (eqb x.number 2) case.BadBytes
+    (pick (eqb x.number 3) case.BadSize
+    (pick (eqb x.number 4) case.BadLength
+    (pick (eqb x.number 5) (case.BadEntry x.place)
+    (pick (eqb x.number 6) (case.NamedTwice x.place)
+    (pick (eqb x.number 7) case.NoSlot
+    (pick (eqb x.number 8) case.SourceFree
+    (pick (eqb x.number 9) case.SourceHome
+    (pick (eqb x.number 10) case.Elsewhere
+    (pick (eqb x.number 11) case.TargetTaken
+    (pick (eqb x.number 12) case.SomeAway
+    (pick (eqb x.number 13) case.TooShort
+    (pick (eqb x.number 14) case.FileForm
+    (pick (eqb x.number 15) case.FileEnds
+    (pick (eqb x.number 16) case.FileLeftOver
+    (pick (eqb x.number 17) case.FileRoom
+    (pick (eqb x.number 18) case.FileLarge
+    (pick (eqb x.number 19) case.BufferShort case.FileGroups))))))))))))))))))
+
+told : (e : given.Refusal) → case_of (refusal_of e) ≡ e
+unfolding case_of
+told case.BadCount = refl
+told case.BadBytes = refl
+told case.BadSize = refl
+told case.BadLength = refl
+told (case.BadEntry entry) = refl
+told (case.NamedTwice entry) = refl
+told case.NoSlot = refl
+told case.SourceFree = refl
+told case.SourceHome = refl
+told case.Elsewhere = refl
+told case.TargetTaken = refl
+told case.SomeAway = refl
+told case.TooShort = refl
+told case.FileForm = refl
+told case.FileEnds = refl
+told case.FileLeftOver = refl
+told case.FileRoom = refl
+told case.FileLarge = refl
+told case.BufferShort = refl
+told case.FileGroups = refl
+
+-- two refusals of one number and place are one
+pub refusal-one : (e f : given.Refusal) → refusal_of e ≡ refusal_of f → e ≡ f
+refusal-one e f is = sym (told e) ∙ ap case_of is ∙ told f
+
+-- two results that are told alike are one: what a contract says of the answer it says of the result
+pub answered-one : (r s : Result Tally given.Refusal) → answered r ≡ answered s → r ≡ s
+answered-one (Ok t) (Ok u) is = ap Ok (ap (λ (a : Answer). a.tally) is)
+answered-one (Ok t) (Err f) is = absurd (refuses f (sym (ap (λ (a : Answer). a.number) is)))
+answered-one (Err e) (Ok u) is = absurd (refuses e (ap (λ (a : Answer). a.number) is))
+answered-one (Err e) (Err f) is = ap Err (refusal-one e f (ap (λ (a : Answer). record { number = a.number; place = a.place }) is))

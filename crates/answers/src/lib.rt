@@ -1,7 +1,8 @@
-// Answers: the number, its place and the counts that every call gives.
+// Answers: why a call is refused, the counts of what it did, and both as the numbers that every call gives.
 #![tactic(auto)]
 
-ghost use Rattle.answers.specs.Answers.{TallyNone, TallyOfMoves, TallyOfCopies, RefusalOf, AnswerRefused, AnswerOf, AnswerDone};
+ghost use Rattle.std.specs.Prelude.{◌≡◌};
+ghost use Rattle.answers.specs.Answers.{TallyNone, TallyOfMoves, TallyOfCopies, NumberOf, PlaceOf, AnswerRefused, AnswerDone, AnswerGiven};
 
 pub mod parts;
 
@@ -43,23 +44,93 @@ impl Tally {
     }
 }
 
-// What a check gives: a number of the rules' list, 0 where it refuses nothing, and the place that goes with it.
+// Why a call is refused, a case for each number of the rules' list; where an entry is refused, which one.
 #[derive(Clone, Copy)]
-pub struct Refusal {
-    pub number: u8,
-    pub place: usize,
+pub enum Refusal {
+    // 1: N is 0 or above 64.
+    BadCount,
+    // 2: B is 0 or above 256.
+    BadBytes,
+    // 3: a rack has too many user slots, or all racks have.
+    BadSize,
+    // 4: places is not S long, or cards not S·B.
+    BadLength,
+    // 5: this entry is neither free nor a user slot.
+    BadEntry(usize),
+    // 6: this entry names the slot that an earlier one names.
+    NamedTwice(usize),
+    // 7: a slot number is S or more.
+    NoSlot,
+    // 8: the source slot is free.
+    SourceFree,
+    // 9: the source's card is on its rack already.
+    SourceHome,
+    // 10: the target is not on the card's destination rack.
+    Elsewhere,
+    // 11: the target is not free.
+    TargetTaken,
+    // 12: a card is away.
+    SomeAway,
+    // 13: the lent list is too short for what would be written.
+    TooShort,
+    // 14: a number of a file is padded beyond its shortest form.
+    FileForm,
+    // 15: a file ends too early.
+    FileEnds,
+    // 16: bytes of a file are left over.
+    FileLeftOver,
+    // 17: the lent lists have no room for a file's capacities or places.
+    FileRoom,
+    // 18: a file is too large to be listed.
+    FileLarge,
+    // 19: the buffer is shorter than the file.
+    BufferShort,
+    // 20: a number of a file has more than three groups.
+    FileGroups,
 }
 
 impl Refusal {
-    // A number that has no place: 0 stands for it.
-    pub fn of(number: u8) -> Refusal
-        ensures { RefusalOf number result }
+    // The number of the rules' list.
+    pub fn number(self) -> u8
+        ensures { NumberOf self result }
     {
-        Refusal { number, place: 0 }
+        match self {
+            Refusal::BadCount => 1,
+            Refusal::BadBytes => 2,
+            Refusal::BadSize => 3,
+            Refusal::BadLength => 4,
+            Refusal::BadEntry(_) => 5,
+            Refusal::NamedTwice(_) => 6,
+            Refusal::NoSlot => 7,
+            Refusal::SourceFree => 8,
+            Refusal::SourceHome => 9,
+            Refusal::Elsewhere => 10,
+            Refusal::TargetTaken => 11,
+            Refusal::SomeAway => 12,
+            Refusal::TooShort => 13,
+            Refusal::FileForm => 14,
+            Refusal::FileEnds => 15,
+            Refusal::FileLeftOver => 16,
+            Refusal::FileRoom => 17,
+            Refusal::FileLarge => 18,
+            Refusal::BufferShort => 19,
+            Refusal::FileGroups => 20,
+        }
+    }
+
+    // The place that goes with the number: the entry where one is refused, else 0.
+    pub fn place(self) -> usize
+        ensures { PlaceOf self result }
+    {
+        match self {
+            Refusal::BadEntry(entry) => entry,
+            Refusal::NamedTwice(entry) => entry,
+            _ => 0,
+        }
     }
 }
 
-// What every call gives: a number of the rules' list, the place that goes with it, and the counts.
+// What every call gives as numbers: a number of the rules' list, the place that goes with it, and the counts.
 #[derive(Clone, Copy)]
 pub struct Answer {
     pub number: u8,
@@ -68,23 +139,16 @@ pub struct Answer {
 }
 
 impl Answer {
-    // What a check gives, with no counts.
+    // A refusal's number and place, with no counts.
     pub fn refused(refusal: Refusal) -> Answer
         ensures { AnswerRefused refusal result }
     {
         let tally = Tally::none();
         Answer {
-            number: refusal.number,
-            place: refusal.place,
+            number: refusal.number(),
+            place: refusal.place(),
             tally,
         }
-    }
-
-    // A number that has no place, with no counts.
-    pub fn of(number: u8) -> Answer
-        ensures { AnswerOf number result }
-    {
-        Answer::refused(Refusal::of(number))
     }
 
     // Done, with the counts.
@@ -97,11 +161,14 @@ impl Answer {
             tally,
         }
     }
-}
 
-// What a call gives that writes bytes into a lent buffer: the number, its place, and how many bytes it wrote.
-#[derive(Clone, Copy)]
-pub struct SizeAnswer {
-    pub answer: Answer,
-    pub size: usize,
+    // What a call gives: its counts, or why it is refused.
+    pub fn of(given: Result<Tally, Refusal>) -> Answer
+        ensures { AnswerGiven given result }
+    {
+        match given {
+            Ok(tally) => Answer::done(tally),
+            Err(refusal) => Answer::refused(refusal),
+        }
+    }
 }
