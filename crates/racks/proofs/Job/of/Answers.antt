@@ -1,18 +1,28 @@
-use mathlib.Core.Path.{◌≡◌, sym, ap, ◌∙◌}
-use Rattle.counting.specs.Checks.{first}
+use mathlib.Core.Path.{sym, ap, ◌∙◌}
+use native.Mathlib.Omega.{arith}
+use Rattle.std.proofs.lemmas.Result.{err_from_is_err_and}
+use Rattle.answers.specs.Answers.{placeless}
 use Rattle.racks.specs.Racks.{of_caps}
-use Rattle.racks.specs.Numbers.{rack_checks}
-use Rattle.racks.specs.Job.{no_job}
-use Rattle.racks.proofs.Jobs.{job-none, job_good}
+use Rattle.racks.proofs.Caps.{length-caps, count-few, checks-1, checks-3, checks-0}
 use Rattle.racks.proofs.Job.of.Goals as goal
-use Rattle.racks.proofs.Job.of.Goals.{Else-number-ne0}
 
--- the capacities are in order
-zero : (c : Else-number-ne0) → first (rack_checks (of_caps c.args.caps.now)) ≡ 0
-zero c = sym c.racks_number-number.ensures ∙ c.if-number-ne0.false
+pub returns-in_err-check_count : goal.returns-in_err-check_count
+returns-in_err-check_count c =
+    let p = err_from_is_err_and c.from_residual.result c.from_residual.ensures.1 in
+    let e = c.in_err-check_count.ensures in
+    rw (p.1, p.2) (e.1 ∙ ap placeless (checks-1 (of_caps c.args.caps.now) e.0))
 
-pub returns-then-number-ne0 : goal.returns-then-number-ne0
-returns-then-number-ne0 c = ap no_job c.racks_number-number.ensures ∙ sym (job-none (of_caps c.args.caps.now) (λ z. c.if-number-ne0.true (c.racks_number-number.ensures ∙ z)))
+pub check_sizes-requires : goal.check_sizes-requires
+check_sizes-requires c = omega (arith, count-few (of_caps c.args.caps.now) c.in_ok-check_count.ensures, length-caps c.args.caps.now)
+
+pub returns-in_err-check_sizes : goal.returns-in_err-check_sizes
+returns-in_err-check_sizes c =
+    let p = err_from_is_err_and c.from_residual-in_err-check_sizes.result c.from_residual-in_err-check_sizes.ensures.1 in
+    let e = c.in_err-check_sizes.ensures in
+    rw (p.1, p.2) (e.1 ∙ ap placeless (checks-3 (of_caps c.args.caps.now) c.in_ok-check_count.ensures e.0))
+
+pub job_of-requires : goal.job_of-requires
+job_of-requires c = sym (checks-0 (of_caps c.args.caps.now) c.in_ok-check_count.ensures c.in_ok-check_sizes.ensures)
 
 pub returns : goal.returns
-returns c = c.job_of.ensures ∙ sym (job_good (of_caps c.args.caps.now) (zero (goal.at.returns c).Else-number-ne0))
+returns c = (sym (checks-0 (of_caps c.args.caps.now) c.in_ok-check_count.ensures c.in_ok-check_sizes.ensures), c.job_of.ensures)
