@@ -10,22 +10,23 @@ use lib.ListN.{length, get_or, set, length-set}
 use lib.Seq.{get_or-set_same, get_or-set_other}
 use borrow.Author.Tests.{eq-eqb, ne_eqb, lt-ltb, le-ltb}
 use borrow.Author.Count.{below_more}
+use Rattle.std.specs.Prelude.{Option, Some, None, Ok}
+use Rattle.std.specs.Option.{option_or}
 use Rattle.counting.specs.Tests.{◌and◌, ◌or◌, pick}
 use Rattle.counting.specs.Count.{some}
 use Rattle.counting.specs.Checks.{first}
-use Rattle.counting.proofs.Tests.{by-test, or_r, or_false, or_l, or-none, pick_same, not_on, and-off_l, no_way}
+use Rattle.counting.proofs.Tests.{by-test, or_r, or_false, or_l, or-none, not_on, and-off_l, no_way}
 use Rattle.counting.proofs.Some.{some-hit, some-none, some_cong, some_more, some-zero}
 use Rattle.counting.proofs.Least.{least-is, least_kept, least-new, least_cong}
 use Rattle.counting.proofs.Checks.{first-here}
-use Rattle.answers.specs.Answers.{placeless}
-use Rattle.answers.specs.declared.Refusal.{Refusal}
+use Rattle.answers.specs.Answers.{Refusal, placeless}
 use Rattle.racks.specs.Limits.{FREE}
 use Rattle.racks.specs.Racks.{Rack, slots, is_user}
 use Rattle.racks.specs.Table.{dest, free, names}
 use Rattle.racks.specs.Numbers.{bad_entry, bad_entries, repeats, bad_twice}
 use Rattle.racks.proofs.Geometry.{user_lt}
 use Rattle.racks.proofs.Legal.{entry-cases}
-use Rattle.entries.specs.parts.Marks.{UsersMarked, mark_of, number_of, mark_in, entry_number, named, Entered, entries_number, entries_refusal, worse, first_twice, twice_to}
+use Rattle.entries.specs.parts.Marks.{UsersMarked, mark_of, number_of, mark_in, entry_number, named, Entered, naming_number, entries_number, entries_refusal, first_twice, twice_in, twice_to}
 
 -- one entry, by the tests that the code makes
 module _ (marks : List ℕ) (x : ℕ) where
@@ -70,6 +71,23 @@ module _ (marks : List ℕ) (x : ℕ) where
       pub entered-0 : get_or marks x 0 ≡ 1 → Entered marks x 0 (set marks x 2)
       unfolding number_of named
       entered-0 e = let m : mark_in marks x ≡ 1 = mark-slot l ∙ e in record { number_is = sym (by_mark ∙ rw m); marks-are = rw m }
+
+-- an entry that is not refused has another number than 5
+pub good-5 : (again : Bool) → naming_number (Ok again) ≡ 5 → ⊥
+good-5 true e = omega arith
+good-5 false e = omega arith
+
+-- the first that repeats an earlier one is kept, or it is entry g, where that does
+module _ (g : ℕ) where
+  pub twice_kept : (was : Option ℕ) → twice_in was ≡ first_twice (twice_in was) 0 g
+  unfolding first_twice
+  twice_kept (Some h) = refl
+  twice_kept None = refl
+
+  pub twice-or : (was : Option ℕ) → twice_in (option_or was (Some g)) ≡ first_twice (twice_in was) 6 g
+  unfolding first_twice
+  twice-or (Some h) = refl
+  twice-or None = refl
 
 -- an entry keeps the length
 length-named : (marks : List ℕ) (x : ℕ) → length (named marks x) ≡ length marks
@@ -258,20 +276,6 @@ module _ (racks : List Rack) (small : slots racks ≤ 4096) (places : List ℕ) 
               twice-is = twice-next;
               long = long-more;
             }
-
--- the number of what is found, and what is found where that is 0
-module _ (places : List ℕ) (g : ℕ) (twice : Refusal) (e : twice ≡ twice_to places g) where
-  pub worse-number : (n : ℕ) → worse twice.number n ≡ (first_twice twice n g).number
-  unfolding worse first_twice twice_to
-  worse-number n = by-test (some g (repeats places))
-      (λ h. rw (e, h) (pick_same {A = ℕ} (eqb n 6) 6))
-      (λ h. rw (e, h) (by-test (eqb n 6) (λ k. rw k) (λ k. rw k)))
-
-  pub twice-none : twice.number ≡ 0 → twice ≡ placeless 0
-  unfolding twice_to
-  twice-none z = by-test (some g (repeats places))
-      (λ h. let q : twice.number ≡ 6 = ap (λ (x : Refusal). x.number) (rw h at e) in absurd (omega arith))
-      (λ h. rw h at e)
 
 -- the whole table: the lowest bad entry, where there is one
 module _ (racks : List Rack) (places : List ℕ) where

@@ -1,11 +1,11 @@
 -- The pass over the entries, as the code makes it: a table of marks, 0 for what is no user slot, 1 for a user slot, 2 for one that an
 -- entry has named. What stands behind the marks of the most slots is not read. Assumes nothing: these are definitions.
-use Rattle.std.specs.Prelude.{◌≡◌, List, ℕ, ◌≤◌, ◌<◌, eqb, ltb, length, get_or, set}
+use Rattle.std.specs.Prelude.{◌≡◌, Bool, List, ℕ, ◌≤◌, ◌<◌, eqb, ltb, length, get_or, set, Result, Ok, Err, Option, Some, None}
 use Rattle.counting.specs.Tests.{bit, pick}
 use Rattle.counting.specs.Count.{some, least}
 use Rattle.counting.specs.Checks.{first, done}
-use Rattle.answers.specs.Answers.{placeless}
-use Rattle.answers.specs.declared.Refusal.{Refusal}
+use Rattle.answers.specs.Answers.{Refusal, placeless}
+use Rattle.answers.specs.declared.Refusal as given
 use Rattle.racks.specs.Limits.{SLOTS, FREE}
 use Rattle.racks.specs.Racks.{Rack, is_user}
 use Rattle.racks.specs.Table.{names}
@@ -53,6 +53,11 @@ pub record Entered (marks : List ℕ) (x number : ℕ) (after : List ℕ) : Type
   pub number_is : number ≡ entry_number marks x
   pub marks-are : after ≡ named marks x
 
+-- the number that naming an entry gives: 5 where it is refused, 6 where it repeats an earlier one
+abbrev pub naming_number : Result Bool given.Refusal → ℕ
+naming_number (Ok again) = pick again 6 0
+naming_number (Err e) = 5
+
 -- 5 and 6 of a whole table
 unfoldable pub entries_number : List Rack → List ℕ → ℕ
 entries_number racks places = first (entry_checks racks places)
@@ -61,9 +66,10 @@ entries_number racks places = first (entry_checks racks places)
 unfoldable pub entries_refusal : List Rack → List ℕ → Refusal
 entries_refusal racks places = refusal_in racks places (entries_number racks places)
 
--- 6 where it is given, else what was
-unfoldable pub worse : ℕ → ℕ → ℕ
-worse was now = pick (eqb now 6) 6 was
+-- 6 and the entry that was found to repeat an earlier one, where one was
+abbrev pub twice_in : Option ℕ → Refusal
+twice_in (Some g) = record { number = 6; place = g }
+twice_in None = placeless 0
 
 -- 6 at the first of the entries that it is given to: what was found before entry g, and the number of that entry
 unfoldable pub first_twice : Refusal → ℕ → ℕ → Refusal
