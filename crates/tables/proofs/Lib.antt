@@ -3,3 +3,4 @@ pub mod Tables
 pub mod Targets
 pub mod One
 pub mod Refusals
+pub mod Capacities

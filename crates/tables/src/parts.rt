@@ -1,12 +1,13 @@
 // What the layers above share: one slot's rack, each slot's rack in a list of bytes, and the refusal of a lent table.
 ghost use Rattle.std.specs.Prelude.{◌≡◌, ◌≤◌, length};
 ghost use Rattle.counting.specs.Tests.{bit};
-ghost use Rattle.racks.specs.Limits.{SLOTS, MARKS};
+ghost use Rattle.answers.specs.Answers.{refused};
+ghost use Rattle.racks.specs.Limits.{BYTES, SLOTS, MARKS};
 ghost use Rattle.racks.specs.Racks.{rack_of};
-ghost use Rattle.racks.specs.Job.{racks_of, Sound, Fit};
-ghost use Rattle.tables.specs.parts.Tables.{named_slot, Racked, Judged, Checked, CardsChecked, checked_by};
+ghost use Rattle.racks.specs.Job.{racks_of, Sound};
+ghost use Rattle.tables.specs.parts.Tables.{named_slot, Racked, Judged, Checked, CardsChecked};
 
-use answers::{Answer, Refusal};
+use answers::Refusal;
 use racks::Job;
 
 // The slot that an entry names; a free slot's own. Two returns that become one choice, not a branch: in a table where free and taken slots
@@ -35,13 +36,10 @@ pub fn rack_of(job: Job, g: usize) -> usize
     requires { Sound job }
     ensures { result ≡ rack_of (racks_of job) g }
 {
-    let n = job.racks;
     let mut rack: u16 = 0;
-    let mut p: usize = 0;
-    while p < n {
+    for p in 0..job.racks {
         let end = job.ends[p] as usize;
-        rack = rack + one_if(end <= g);
-        p = p + 1;
+        rack += one_if(end <= g);
     }
     rack as usize
 }
@@ -51,92 +49,66 @@ pub fn fill_racking(job: Job, racking: &mut [u8; Job::MAX_SLOTS])
     requires { Sound job × (length racking.old ≡ SLOTS) }
     ensures { Racked (racks_of job) racking.new }
 {
-    let n = job.racks;
     let mut low: usize = 0;
-    let mut p: usize = 0;
-    while p < n {
+    for p in 0..job.racks {
         let end = job.ends[p] as usize;
         entries::parts::fill(racking, low, end, p as u8);
         low = end;
-        p = p + 1;
     }
 }
 
-// The refusal of a table, by marks that are lent. They serve both passes: a table that is refused is searched in those that the quick pass
+// The check of a table, by marks that are lent. They serve both passes: a table that is refused is searched in those that the quick pass
 // has used.
-pub fn marks_refusal(job: Job, places: &[u16], marks: &mut [u8; Job::MARKS]) -> Refusal
-    requires { Fit job × (length marks.old ≡ MARKS) }
-    ensures judged { Judged job places.now result }
+pub fn check_marks(job: Job, places: &[u16], marks: &mut [u8; Job::MARKS]) -> Result<(), Refusal>
+    requires { Sound job × (length marks.old ≡ MARKS) }
+    ensures judged { Judged job places.now (refused result) }
     ensures long { length marks.new ≡ MARKS }
 {
-    if job.refused != 0 {
-        return Refusal::of(job.refused);
-    }
     if places.len() != job.slots {
-        return Refusal::of(4);
+        return Err(Refusal::BadLength);
     }
     if entries::parts::entries_clear(job, places, marks) {
-        return Refusal::of(0);
+        return Ok(());
     }
-    entries::parts::find_refusal(job, places, marks)
+    entries::parts::check_entries(job, places, marks)
 }
 
-// The refusal of a table.
-pub fn places_refusal(job: Job, places: &[u16]) -> Refusal
-    requires { Fit job }
-    ensures { Judged job places.now result }
+// The check of a table: 4 to 6.
+pub fn check_places(job: Job, places: &[u16]) -> Result<(), Refusal>
+    requires { Sound job }
+    ensures { Judged job places.now (refused result) }
 {
     let mut marks = [1u8; Job::MARKS];
-    marks_refusal(job, places, &mut marks)
+    check_marks(job, places, &mut marks)
 }
 
-// The refusal of a table; where its number is 0, each slot's rack is known.
-pub fn table_refusal(job: Job, places: &[u16], racking: &mut [u8; Job::MAX_SLOTS]) -> Refusal
-    requires { Fit job × (length racking.old ≡ SLOTS) }
-    ensures { Checked job places.now result racking.new }
+// The check of a table; where it passes, each slot's rack is known.
+pub fn check_racked(
+    job: Job,
+    places: &[u16],
+    racking: &mut [u8; Job::MAX_SLOTS],
+) -> Result<(), Refusal>
+    requires { Sound job × (length racking.old ≡ SLOTS) }
+    ensures { Checked job places.now (refused result) racking.new }
 {
-    let refusal = places_refusal(job, places);
-    if refusal.number != 0 {
-        return refusal;
-    }
+    check_places(job, places)?;
     fill_racking(job, racking);
-    refusal
+    Ok(())
 }
 
-// The refusal of a table and its cards of B bytes; where its number is 0, each slot's rack is known.
-pub fn cards_refusal(
+// The check of a table and its cards of b bytes; where it passes, each slot's rack is known.
+pub fn check_cards(
     job: Job,
     b: usize,
     places: &[u16],
     cards: &[u8],
     racking: &mut [u8; Job::MAX_SLOTS],
-) -> Refusal
-    requires { Fit job × (length racking.old ≡ SLOTS) }
-    ensures { CardsChecked job b places.now cards.now result racking.new }
+) -> Result<(), Refusal>
+    requires { Sound job × (b ≤ BYTES) × (length racking.old ≡ SLOTS) }
+    ensures { CardsChecked job b places.now cards.now (refused result) racking.new }
 {
-    if job.refused == 1 {
-        return Refusal::of(1);
-    }
-    if b == 0 {
-        return Refusal::of(2);
-    }
-    if Job::MAX_BYTES < b {
-        return Refusal::of(2);
-    }
-    if job.refused != 0 {
-        return Refusal::of(job.refused);
-    }
     if cards.len() != job.slots * b {
-        return Refusal::of(4);
+        return Err(Refusal::BadLength);
     }
-    table_refusal(job, places, racking)
-}
-
-// The table check, by the job.
-pub fn check_job(job: Job, places: &[u16]) -> Answer
-    requires { Fit job }
-    ensures { result ≡ checked_by job places.now }
-{
-    let refusal = places_refusal(job, places);
-    Answer::refused(refusal)
+    check_racked(job, places, racking)
 }

@@ -1,15 +1,13 @@
 -- What the tables of bytes hold, and the refusal of a lent table, by the job. Assumes nothing: these are definitions.
 use Rattle.std.specs.Prelude.{◌≡◌, Bool, not, List, ◌∷◌, ℕ, ◌*◌, ◌≤◌, ◌<◌, eqb, length, get_or}
 use Rattle.counting.specs.Tests.{◌or◌, pick}
-use Rattle.counting.specs.Checks.{first, known, done}
-use Rattle.answers.specs.Answers.{answer, no_counts}
-use Rattle.answers.specs.declared.Refusal.{Refusal}
-use Rattle.answers.specs.declared.Answer.{Answer}
+use Rattle.counting.specs.Checks.{first}
+use Rattle.answers.specs.Answers.{Refusal}
 use Rattle.racks.specs.Limits.{RACKS, BYTES, SLOTS, FREE}
 use Rattle.racks.specs.Racks.{Rack, slots, rack_of}
 use Rattle.racks.specs.Table.{dest}
 use Rattle.racks.specs.parts.Legal.{Legal}
-use Rattle.racks.specs.Numbers.{bad_bytes, bad_places, bad_cards, entry_checks, places_checks, place_for}
+use Rattle.racks.specs.Numbers.{bad_places, bad_cards, entry_checks, places_checks, refusal_in}
 use Rattle.racks.specs.Job.{racks_of, Sound}
 use Rattle.racks.specs.declared.Job.{Job}
 
@@ -55,40 +53,30 @@ pub record OpenCards (job : Job) (b : ℕ) (places cards racking : List ℕ) : T
   pub bytes : b ≤ BYTES
   pub long : length cards ≡ slots (racks_of job) * b
 
--- number n and its place in a table, by a job: where the racks are refused there is none
-unfoldable pub refusal_by : Job → List ℕ → ℕ → Refusal
-refusal_by job places n = record { number = n; place = pick (done job.refused) (place_for (racks_of job) places n) 0 }
+-- number n and its place in a table, by a job
+abbrev pub refusal_by : Job → List ℕ → ℕ → Refusal
+refusal_by job places n = refusal_in (racks_of job) places n
 
--- the number of a table, by a job: what its racks are refused with, then 4 to 6
+-- the number of a table, by a job: 4 to 6
 unfoldable pub table_number : Job → List ℕ → ℕ
-table_number job places = first (known job.refused ∷ places_checks (racks_of job) places)
+table_number job places = first (places_checks (racks_of job) places)
 
--- what `places_refusal` gives: the number and its place, and where the number is 0 a sound job and a legal table
+-- what the check of a table gives: the number and its place, and where the number is 0 a legal table
 pub record Judged (job : Job) (places : List ℕ) (refusal : Refusal) : Type 0 where
   pub refusal_is : refusal ≡ refusal_by job places (table_number job places)
-  pub sound : refusal.number ≡ 0 → Sound job
   pub legal : refusal.number ≡ 0 → Legal (racks_of job) places
 
--- what `table_refusal` gives: the number and its place, and where the number is 0 what acceptance gives
+-- what it gives with the racking: the number and its place, and where the number is 0 what acceptance gives
 pub record Checked (job : Job) (places : List ℕ) (refusal : Refusal) (racking : List ℕ) : Type 0 where
   pub refusal_is : refusal ≡ refusal_by job places (table_number job places)
   pub opened : refusal.number ≡ 0 → Open job places racking
 
--- the number of a table and its cards, by a job: 2 stands between 1 and the others that its racks are refused with, then 4 to 6
+-- the number of a table and its cards, by a job: 4 to 6
 unfoldable pub cards_number : Job → ℕ → List ℕ → List ℕ → ℕ
 cards_number job b places cards =
-    first
-    ((eqb job.refused 1, 1)
-    ∷ (bad_bytes b, 2)
-    ∷ known job.refused
-    ∷ (bad_places (racks_of job) places or bad_cards (racks_of job) b cards, 4)
-    ∷ entry_checks (racks_of job) places)
+    first ((bad_places (racks_of job) places or bad_cards (racks_of job) b cards, 4) ∷ entry_checks (racks_of job) places)
 
--- what `cards_refusal` gives: the number and its place, and where the number is 0 what acceptance gives
+-- what the check of a table and its cards gives: the number and its place, and where the number is 0 what acceptance gives
 pub record CardsChecked (job : Job) (b : ℕ) (places cards : List ℕ) (refusal : Refusal) (racking : List ℕ) : Type 0 where
   pub refusal_is : refusal ≡ refusal_by job places (cards_number job b places cards)
   pub opened : refusal.number ≡ 0 → OpenCards job b places cards racking
-
--- the table check, by a job
-unfoldable pub checked_by : Job → List ℕ → Answer
-checked_by job places = answer (refusal_by job places (table_number job places)) no_counts

@@ -1,4 +1,3 @@
-use Prim.Native.Nat.{◌-◌}
 use mathlib.Core.Path.{◌≡◌}
 use lib.ListN.{length}
 use Rattle.racks.specs.Job.{racks_of}
@@ -8,6 +7,3 @@ use Rattle.tables.proofs.parts.fill_racking.Given as goal
 
 abbrev pub invariant-loop-p : goal.invariant-loop-p
 invariant-loop-p l = At l.job l.p l.low × (length l.racking ≡ 4096) × FilledTo (racks_of l.job) l.low l.racking
-
-abbrev pub decreases-loop-p : goal.decreases-loop-p
-decreases-loop-p l = l.n - l.p

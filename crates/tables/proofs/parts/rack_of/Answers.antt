@@ -19,10 +19,10 @@ end c = sound-ends c.args.job c.requires c.loop-p.p (omega (arith, sound-racks _
 
 -- it is counted
 more : (c : After-one_if-rack) → Ended (racks_of c.args.job) c.args.g (c.loop-p.p + 1) (c.loop-p.rack + c.one_if-rack.result)
-more c = let l = c.loop-p in ended-more _ _ l.p l.rack _ _ l.invariant.1 (end c) c.one_if-rack.ensures
+more c = let l = c.loop-p in ended-more _ _ l.p l.rack _ _ l.invariant (end c) c.one_if-rack.ensures
 
 pub loop-p-init : goal.loop-p-init
-loop-p-init c = (omega arith, ended-none _ _)
+loop-p-init c = ended-none _ _
 
 pub offset_bounds-job-p : goal.offset_bounds-job-p
 offset_bounds-job-p c = omega (arith, next c)
@@ -34,12 +34,12 @@ pub overflow_add-rack : goal.overflow_add-rack
 overflow_add-rack c = omega (arith, next (goal.at.overflow_add-rack c).In-loop-p, (more c).few)
 
 pub loop-p-preserved : goal.loop-p-preserved
-loop-p-preserved c = (omega arith, more c)
+loop-p-preserved c = more c
 
 pub overflow_cast-result : goal.overflow_cast-result
-overflow_cast-result c = omega (arith, c.loop-p.invariant.1.few, sound-count _ c.requires, c.loop-p.invariant.0)
+overflow_cast-result c = omega (arith, c.loop-p.invariant.few, sound-count _ c.requires)
 
 pub returns : goal.returns
 returns c =
     let l = c.loop-p in
-    ended-all _ _ _ _ (omega (arith, sound-racks _ c.requires, l.invariant.0)) l.invariant.1
+    ended-all _ _ _ _ (omega (arith, sound-racks _ c.requires)) l.invariant
