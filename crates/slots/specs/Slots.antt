@@ -6,32 +6,20 @@ use Rattle.racks.specs.Racks.{Rack, is_user, of_caps}
 use Rattle.racks.specs.Table.{free, settled, away, rack_to}
 use Rattle.racks.specs.Numbers.{table_checks, no_slot, refusal_in}
 use Rattle.answers.specs.Answers.{answer, no_counts}
-use Rattle.answers.specs.declared.Refusal.{Refusal}
-use Rattle.slots.specs.declared.Kind.{Kind}
-use Rattle.slots.specs.declared.Kind.TheVariants as kind
-use Rattle.slots.specs.declared.State.{State}
-use Rattle.slots.specs.declared.State.TheVariants as state
-use Rattle.slots.specs.declared.Slot.{Slot}
-use Rattle.slots.specs.declared.SlotAnswer.{SlotAnswer}
+use Rattle.slots.specs.Told.{Kind, State, SlotAnswer, nothing}
+use Rattle.slots.specs.Told.Kind.{User, Spare}
+use Rattle.slots.specs.Told.State.{Free, Settled, Unsettled, Away}
 
 -- user slot or spare
 unfoldable pub kind_of : List Rack → ℕ → Kind
-kind_of racks g = pick (is_user racks g) kind.User kind.Spare
+kind_of racks g = pick (is_user racks g) User Spare
 
 -- free, settled, away and to which rack, or on its rack but unsettled
 unfoldable pub state_of : List Rack → List ℕ → ℕ → State
 state_of racks places g =
-    pick (free places g) state.Free
-    (pick (settled places g) state.Settled
-    (pick (away racks places g) (state.Away (rack_to racks places g)) state.Unsettled))
-
--- the slot on a refusal: none
-abbrev pub nothing : Slot
-nothing = record { kind = kind.None; state = state.None }
-
--- a refusal: its number and place, no counts, and none
-abbrev pub refused_slot : Refusal → SlotAnswer
-refused_slot x = record { answer = answer x no_counts; slot = nothing }
+    pick (free places g) Free
+    (pick (settled places g) Settled
+    (pick (away racks places g) (Away (rack_to racks places g)) Unsettled))
 
 -- 1, 3 to 6, and 7
 unfoldable pub slot_checks : List Rack → List ℕ → ℕ → List Check

@@ -1,27 +1,14 @@
 // What the slot question puts together.
 ghost use Rattle.std.specs.Prelude.{◌≡◌, ◌<◌, length};
 ghost use Rattle.racks.specs.Racks.{is_user};
-ghost use Rattle.racks.specs.Job.{racks_of, Sound, Fit};
-ghost use Rattle.slots.specs.Slots.{refused_slot, kind_of, state_of};
+ghost use Rattle.racks.specs.Job.{racks_of, Sound};
+ghost use Rattle.slots.specs.Told.{kind_told, state_told, slot_answered};
+ghost use Rattle.slots.specs.Slots.{kind_of, state_of};
 ghost use Rattle.slots.specs.parts.Asked.{asked_by};
 
-use crate::{Kind, Slot, SlotAnswer, State};
-use answers::{Answer, Refusal};
+use crate::{Kind, Slot, State};
+use answers::Refusal;
 use racks::Job;
-
-// A refusal of the slot question: its number and place, and none.
-pub fn refused(refusal: Refusal) -> SlotAnswer
-    ensures { result ≡ refused_slot refusal }
-{
-    let answer = Answer::refused(refusal);
-    SlotAnswer {
-        answer,
-        slot: Slot {
-            kind: Kind::None,
-            state: State::None,
-        },
-    }
-}
 
 // Whether g is a user slot.
 pub fn is_user(job: Job, g: usize) -> bool
@@ -39,7 +26,7 @@ pub fn is_user(job: Job, g: usize) -> bool
 // User slot or spare.
 pub fn kind_of(job: Job, g: usize) -> Kind
     requires { Sound job }
-    ensures { result ≡ kind_of (racks_of job) g }
+    ensures { kind_told result ≡ kind_of (racks_of job) g }
 {
     if is_user(job, g) {
         return Kind::User;
@@ -50,7 +37,7 @@ pub fn kind_of(job: Job, g: usize) -> Kind
 // What stands in slot g of a table. Two racks at most are asked for: counting to them costs less than a racking.
 pub fn state_of(job: Job, places: &[u16], g: usize) -> State
     requires { Sound job × (g < length places.now) }
-    ensures { result ≡ state_of (racks_of job) places.now g }
+    ensures { state_told result ≡ state_of (racks_of job) places.now g }
 {
     let x = places[g];
     if x == Job::FREE {
@@ -68,22 +55,15 @@ pub fn state_of(job: Job, places: &[u16], g: usize) -> State
 }
 
 // The slot question, by the job.
-pub fn ask_job(job: Job, places: &[u16], g: usize) -> SlotAnswer
-    requires { Fit job }
-    ensures { result ≡ asked_by job places.now g }
+pub fn ask_job(job: Job, places: &[u16], g: usize) -> Result<Slot, Refusal>
+    requires { Sound job }
+    ensures { slot_answered result ≡ asked_by job places.now g }
 {
-    let refusal = tables::parts::places_refusal(job, places);
-    if refusal.number != 0 {
-        return refused(refusal);
-    }
+    tables::parts::check_places(job, places)?;
     if places.len() <= g {
-        return refused(Refusal::of(7));
+        return Err(Refusal::NoSlot);
     }
-    let answer = Answer::of(0);
     let kind = kind_of(job, g);
     let state = state_of(job, places, g);
-    SlotAnswer {
-        answer,
-        slot: Slot { kind, state },
-    }
+    Ok(Slot { kind, state })
 }

@@ -5,13 +5,12 @@ use Rattle.racks.specs.Racks.{Rack}
 use Rattle.racks.specs.Numbers.{no_slot}
 use Rattle.racks.specs.Job.{racks_of}
 use Rattle.racks.specs.declared.Job.{Job}
-use Rattle.answers.specs.Answers.{answer, no_counts}
-use Rattle.answers.specs.declared.Refusal.{Refusal}
+use Rattle.answers.specs.Answers.{Refusal, answer, no_counts}
 use Rattle.counting.specs.Tests.{pick}
 use Rattle.counting.specs.Checks.{done}
 use Rattle.tables.specs.parts.Tables.{refusal_by, table_number}
-use Rattle.slots.specs.Slots.{kind_of, state_of, nothing}
-use Rattle.slots.specs.declared.SlotAnswer.{SlotAnswer}
+use Rattle.slots.specs.Told.{SlotAnswer, nothing}
+use Rattle.slots.specs.Slots.{kind_of, state_of}
 
 -- the answer, by its refusal: the slot is none unless the number is 0
 unfoldable pub said : List Rack → List ℕ → ℕ → Refusal → SlotAnswer
