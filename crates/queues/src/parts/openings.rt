@@ -14,10 +14,8 @@ fn free_word(places: &[u16], low: usize, high: usize) -> u64
     ensures { Word places.now low high result }
 {
     let mut word: u64 = 0;
-    let mut g = high;
-    while low < g {
-        g = g - 1;
-        word = 2 * word + tables::parts::one_if(places[g] == Job::FREE) as u64;
+    for g in (low..high).rev() {
+        word = 2 * word + u64::from(places[g] == Job::FREE);
     }
     word
 }
@@ -27,13 +25,10 @@ pub fn find_free(places: &[u16], bits: &mut [u64; bits::parts::WORDS])
     requires { (length places.now ≤ SLOTS) × Blank WORDS bits.old }
     ensures { FreeSet places.now bits.new }
 {
-    let slots = places.len();
-    let mut w: usize = 0;
-    while w * 64 < slots {
+    for w in 0..places.len().div_ceil(64) {
         let low = w * 64;
-        let high = racks::parts::smaller(low + 64, slots);
+        let high = places.len().min(low + 64);
         let word = free_word(places, low, high);
         bits::parts::fill_word(bits, w, word);
-        w = w + 1;
     }
 }

@@ -1,15 +1,8 @@
-use mathlib.Core.Path.{refl}
-use Prim.Native.Nat.{◌-◌}
-use native.Mathlib.Omega.{arith}
-use lib.ListN.{length-set}
-use Rattle.carrying.proofs.CardLoops.{copy_more, copy_done}
+use mathlib.Core.Path.{◌∙◌}
+use Rattle.carrying.proofs.CardBytes.{pasted}
 use Rattle.carrying.proofs.parts.copy_card.Goals as goal
 
-pub loop-i-init : goal.loop-i-init
-loop-i-init c = (omega arith, refl, refl)
-
-pub loop-i-preserved : goal.loop-i-preserved
-loop-i-preserved c = (omega arith, simp length-set (omega arith), copy_more _ _ _ _ _ _ (omega arith) (omega arith) c.loop-i.invariant.2)
-
 pub returns : goal.returns
-returns c = copy_done _ _ _ c.loop-i.i _ _ c.loop-i.invariant.2 (omega arith)
+returns c =
+    let a = c.args in
+    c.copy_within.ensures.after ∙ pasted a.b a.from a.to a.cards.now c.requires.0 c.requires.1

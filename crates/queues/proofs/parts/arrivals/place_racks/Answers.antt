@@ -1,6 +1,5 @@
 use native.Mathlib.Omega.{arith}
 use mathlib.Core.Path.{◌≡◌}
-use Prim.Native.Nat.{◌-◌}
 use Rattle.racks.proofs.Passing.{Bounds, at_first, at_bounds, at_next}
 use Rattle.queues.proofs.Placing.{placed-none, placed-more, rooms-counted}
 use Rattle.queues.proofs.parts.arrivals.place_racks.Goals as goal

@@ -1,9 +1,6 @@
-use Prim.Native.Nat.{◌-◌, ◌≤◌}
+use Prim.Native.Nat.{◌≤◌}
 use Rattle.queues.specs.parts.Openings.{Word}
 use Rattle.queues.proofs.parts.openings.free_word.Given as goal
 
 abbrev pub invariant-loop-g : goal.invariant-loop-g
-invariant-loop-g l = (l.low ≤ l.g) × (l.g ≤ l.high) × Word l.places l.g l.high l.word
-
-abbrev pub decreases-loop-g : goal.decreases-loop-g
-decreases-loop-g l = l.g - l.low
+invariant-loop-g l = (l.low ≤ l.g) × Word l.places l.g l.high l.word
