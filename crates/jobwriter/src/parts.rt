@@ -27,7 +27,7 @@ fn put_number(out: &mut [u8], at: usize, x: u16) -> usize
     requires { (x < 16384) × (at + 1 < length out.old) }
     ensures { Put (numeral_of x) out.old at out.new result }
 {
-    let more = tables::parts::one_if(128 <= x);
+    let more = u16::from(128 <= x);
     out[at] = (x % 128 + 128 * more) as u8;
     out[at + 1] = (x / 128) as u8;
     at + 1 + more as usize
@@ -40,12 +40,10 @@ fn put_caps(job: Job, out: &mut [u8], at: usize) -> usize
 {
     let mut next = at;
     let mut low: u16 = 0;
-    let mut p: usize = 0;
-    while p < job.racks {
+    for p in 0..job.racks {
         let m = job.spares[p] - low;
         next = put_number(out, next, m);
         low = job.ends[p];
-        p = p + 1;
     }
     next
 }
@@ -56,11 +54,8 @@ fn put_entries(out: &mut [u8], at: usize, places: &[u16]) -> usize
     ensures { Put (numerals_of (each file_entry places.now)) out.old at out.new result }
 {
     let mut next = at;
-    let mut g: usize = 0;
-    while g < places.len() {
-        let x = file_entry(places[g]);
-        next = put_number(out, next, x);
-        g = g + 1;
+    for x in places {
+        next = put_number(out, next, file_entry(*x));
     }
     next
 }
@@ -72,14 +67,12 @@ fn caps_size(job: Job) -> usize
 {
     let mut more: u16 = 0;
     let mut low: u16 = 0;
-    let mut p: usize = 0;
-    while p < job.racks {
+    for p in 0..job.racks {
         let m = job.spares[p] - low;
-        more = more + tables::parts::one_if(128 <= m);
+        more += u16::from(128 <= m);
         low = job.ends[p];
-        p = p + 1;
     }
-    p + more as usize
+    job.racks + more as usize
 }
 
 // How many bytes the entries are.
@@ -88,13 +81,10 @@ fn entries_size(places: &[u16]) -> usize
     ensures { result ≡ length (numerals_of (each file_entry places.now)) }
 {
     let mut more: u16 = 0;
-    let mut g: usize = 0;
-    while g < places.len() {
-        let x = file_entry(places[g]);
-        more = more + tables::parts::one_if(128 <= x);
-        g = g + 1;
+    for x in places {
+        more += u16::from(128 <= file_entry(*x));
     }
-    g + more as usize
+    places.len() + more as usize
 }
 
 // How many bytes all numbers of the file are: N has one group.
@@ -102,8 +92,8 @@ fn numbers_size(job: Job, b: usize, places: &[u16]) -> usize
     requires { Writable job b places.now }
     ensures { result ≡ length (numerals_of (file_numbers (racks_of job) b places.now)) }
 {
-    let more = tables::parts::one_if(128 <= b);
-    2 + more as usize + caps_size(job) + entries_size(places)
+    let more = usize::from(128 <= b);
+    2 + more + caps_size(job) + entries_size(places)
 }
 
 // The file, from the front of a buffer that has room for it. There are card bytes, which are put over what the last number left behind it.
@@ -115,7 +105,7 @@ fn put_file(job: Job, b: usize, places: &[u16], cards: &[u8], out: &mut [u8])
     next = put_number(out, next, b as u16);
     next = put_caps(job, out, next);
     next = put_entries(out, next, places);
-    racks::parts::put_bytes(out, next, cards);
+    racks::parts::put(out, next, cards);
 }
 
 // Write file, by the job: the length first, then one pass.

@@ -25,7 +25,8 @@ use Rattle.spans.specs.declared.parts.Range.{Range}
 use Rattle.spans.specs.declared.parts.Hits.{Hits}
 use Rattle.spans.specs.parts.Spans.{free_range, entry_in, hits_in}
 use Rattle.planner.specs.parts.Targets.{pairs_to, TargetIn, PairsPut}
-use Rattle.planner.proofs.Targets.{entry_free, target_is}
+use Rattle.spans.proofs.Found.{free-lies}
+use Rattle.planner.proofs.Targets.{target_is}
 
 -- the pairs of the first n targets
 unfoldable pub pairs_up_to : List Rack → List ℕ → ℕ → List Pair
@@ -97,7 +98,7 @@ module _ (racks : List Rack) (places : List ℕ) where
           arith,
           here-is,
           plan-free racks places,
-          count_cong (slots racks) (free places) (λ j. entry_in places free_range (0 + j)) (λ j _. entry_free places j ∙ rw zero-add),
+          count_cong (slots racks) (free places) (λ j. entry_in places free_range (0 + j)) (λ j _. free-lies places j ∙ rw zero-add),
         )
 
     pub free-few : here.count ≤ slots racks

@@ -1,21 +1,19 @@
 -- The pairs of a target, by the slots where it begins and ends, are those of the plan; they are counted and put as the code does it.
 -- Assumes nothing.
 use mathlib.Core.Path.{◌≡◌, ap, sym, ◌∙◌}
-use mathlib.Core.Bool.{Bool, true, false}
+use mathlib.Core.Bool.{Bool, false}
 use mathlib.Core.Logic.{◌≢◌}
 use mathlib.Core.List.{List, ◌++◌, append-nil}
 use Prim.Native.Nat.{ℕ, suc, ◌+◌, ◌-◌, ◌*◌, ◌≤◌, ◌<◌, min}
 use native.Mathlib.Omega.{arith}
 use native.Mathlib.Nat.{zero-add, sub-zero}
 use native.Mathlib.Decide.{ℕ_discrete}
-use lib.Dec.{leb}
 use lib.ListN.{length, take, length-append, length-take}
 use lib.Seq.{sets, length-take-le}
-use borrow.Author.Tests.{eqb-true, eq-eqb, ne_eqb, le-leb, lt-ltb, leb-true, ltb-true}
-use Rattle.counting.specs.Tests.{◌and◌}
-use Rattle.counting.specs.Count.{count, select, select_from}
+use borrow.Author.Tests.{eqb-true, eq-eqb}
+use Rattle.counting.specs.Count.{select, select_from}
 use Rattle.counting.specs.Lists.{Pair, column, flat}
-use Rattle.counting.proofs.Tests.{by-test, off, no_way, both, and_l, and_r, and_true}
+use Rattle.counting.proofs.Tests.{by-test, off, no_way, and_true}
 use Rattle.counting.proofs.Lists.{take_min}
 use Rattle.counting.proofs.Pairs.{length-pair_up, pair_up-both}
 use Rattle.counting.proofs.SelectFrom.{from-split, from_cong, from-none, from_front, from_mono, select-all}
@@ -31,17 +29,10 @@ use Rattle.plans.specs.Plan.{open_slots, plan_for}
 use Rattle.plans.proofs.Grants.{plan_for-is}
 use Rattle.spans.specs.declared.parts.Range.{Range}
 use Rattle.spans.specs.declared.parts.Hits.{Hits}
-use Rattle.spans.specs.parts.Spans.{lies, RangeFits, range_of, free_range, entry_in, hits_in, SlotsPut}
+use Rattle.spans.specs.parts.Spans.{range_of, free_range, entry_in, hits_in, SlotsPut}
 use Rattle.planner.specs.parts.Targets.{coming_to, opens_of, pairs_to, PairsPut}
+use Rattle.spans.proofs.Found.{lies-on, lies-off, free-lies}
 use Rattle.spans.proofs.Spans.{count-here, put_on}
-
--- the slots of a rack fit
-pub rack-fits : (first end : ℕ) (range : Range) → range ≡ range_of first end → first ≤ end → end ≤ 4096 → RangeFits range
-rack-fits first end range e u l = rw e (omega arith)
-
--- the mark of a free slot fits
-pub free-fits : (range : Range) → range ≡ free_range → RangeFits range
-free-fits range e = rw e (omega arith)
 
 module _ (places : List ℕ) (first end : ℕ) where
   -- the cards below and those above
@@ -133,14 +124,6 @@ module _ (places : List ℕ) (first end : ℕ) where
             next-is = last-is;
           }
 
--- a free slot's entry is the mark
-pub entry_free : (places : List ℕ) (g : ℕ) → free places g ≡ entry_in places free_range g
-unfolding entry_in free lies ◌and◌
-entry_free places g = elim (ℕ_discrete (dest places g) FREE) [
-  | yes e ↦ rw e
-  | no d ↦ ne_eqb (dest places g) FREE d ∙ sym (off (λ t. d (omega (arith, leb-true FREE (dest places g) (and_l _ t), ltb-true (dest places g - FREE) 1 (and_r (leb FREE (dest places g)) t)))))
-]
-
 -- a card on another rack is away to p exactly if its entry lies in p's slots
 module _ (racks : List Rack) (places : List ℕ) (v : Legal racks places) (small : slots racks ≤ 4096) (p : ℕ) (l : p < length racks) where
   abbrev low : ℕ
@@ -155,27 +138,17 @@ module _ (racks : List Rack) (places : List ℕ) (v : Legal racks places) (small
   ends : high ≤ slots racks
   ends = end_le racks p l
 
-  -- an entry that names a slot of p
-  lies-on : (x : ℕ) → low ≤ x → x < high → lies (range_of low high) x ≡ true
-  unfolding lies
-  lies-on x m n = both (le-leb low x m) (lt-ltb (x - low) (high - low) (omega arith))
-
-  -- or does not
-  lies-off : (x : ℕ) → (low ≤ x → x < high → ⊥) → lies (range_of low high) x ≡ false
-  unfolding lies
-  lies-off x f = off (λ t. f (leb-true low x (and_l _ t)) (omega (arith, ltb-true (x - low) (high - low) (and_r (leb low x) t))))
-
   -- a slot of another rack
   pub away_range : (g : ℕ) → g < slots racks → rack_of racks g ≢ p → away_to racks places p g ≡ entry_in places (range_of low high) g
   unfolding entry_in free
   away_range g m d = by-test (free places g)
       (λ f. off (λ a. no_way f (away-held racks places g (to-away racks places p g a)))
-      ∙ sym (lies-off (dest places g) (λ _ h. omega (arith, ends, eqb-true (dest places g) FREE f))))
+      ∙ sym (lies-off low high (dest places g) (λ _ h. omega (arith, ends, eqb-true (dest places g) FREE f))))
       (λ f. elim (ℕ_discrete (rack_to racks places g) p) [
         | yes e ↦
             let b = rack_in racks p (dest places g) (legal-dest racks places v g m f) (named e) in
-            to_is racks places p g (away-is racks places g f (λ q. d (q ∙ e))) e ∙ sym (lies-on (dest places g) b.0 b.1)
-        | no e ↦ off (λ a. e (to-rack racks places p g a)) ∙ sym (lies-off (dest places g) (λ h h'. e (names (rack-is racks p (dest places g) l h h'))))
+            to_is racks places p g (away-is racks places g f (λ q. d (q ∙ e))) e ∙ sym (lies-on low high (dest places g) b.0 b.1)
+        | no e ↦ off (λ a. e (to-rack racks places p g a)) ∙ sym (lies-off low high (dest places g) (λ h h'. e (names (rack-is racks p (dest places g) l h h'))))
       ])
     where
       named : rack_to racks places g ≡ p → rack_of racks (dest places g) ≡ p
@@ -215,7 +188,7 @@ module _ (racks : List Rack) (places : List ℕ) (v : Legal racks places) (small
 
   free_on_lem : (g : ℕ) → rack_of racks g ≡ p → free_on racks places p g ≡ entry_in places free_range g
   unfolding free_on
-  free_on_lem g e = and_true _ (eq-eqb (rack_of racks g) p e) ∙ entry_free places g
+  free_on_lem g e = and_true _ (eq-eqb (rack_of racks g) p e) ∙ free-lies places g
 
   free_off : (g : ℕ) → rack_of racks g ≢ p → free_on racks places p g ≡ false
   free_off g d = off (λ f. d (on-rack racks places p g f))

@@ -20,12 +20,10 @@ pub fn count_pairs(job: Job, places: &[u16]) -> usize
 {
     let mut pairs: usize = 0;
     let mut low: u16 = 0;
-    let mut p: usize = 0;
-    while p < job.racks {
+    for p in 0..job.racks {
         let high = job.ends[p];
-        pairs = pairs + targets::count_target(places, low, high);
+        pairs += targets::count_target(places, low, high);
         low = high;
-        p = p + 1;
     }
     pairs
 }
@@ -51,12 +49,10 @@ pub fn write_plan(job: Job, places: &[u16], lent: &mut [u16], most: usize) -> us
 {
     let mut pairs: usize = 0;
     let mut low: u16 = 0;
-    let mut p: usize = 0;
-    while p < job.racks {
+    for p in 0..job.racks {
         let high = job.ends[p];
         pairs = targets::put_target(places, low, high, lent, pairs, most);
         low = high;
-        p = p + 1;
     }
     pairs
 }

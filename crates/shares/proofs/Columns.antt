@@ -4,20 +4,14 @@ use mathlib.Core.Logic.{◌≢◌}
 use mathlib.Core.List.{List, [], ◌∷◌, ◌++◌}
 use Prim.Native.Nat.{ℕ, zero, suc, ◌+◌, ◌*◌, ◌≤◌, ◌<◌}
 use native.Mathlib.Omega.{arith}
-use native.Mathlib.Nat.{add-zero, add-suc, suc-add}
 use native.Mathlib.Decide.{ℕ_discrete}
-use lib.ListN.{length, set, length-set}
-use lib.Seq.{sets, set-set, set_comm}
+use lib.ListN.{length, set}
+use lib.Seq.{sets, set_comm}
 use Rattle.counting.specs.Lists.{Pair, tabulate, join, pair_up, flat, column}
-use Rattle.counting.proofs.Columns.{column-none, column-more, column-over, column-append, column-long, columns-flat}
+use Rattle.counting.proofs.Columns.{column-none, column-more, column-append, column-long, columns-flat}
 use Rattle.counting.proofs.Lists.{join_more}
 use Rattle.counting.proofs.Stores.{sets-flat-none, sets-flat-append}
 use Rattle.shares.specs.parts.Columns.{columns}
-
--- what stood in the place of the first does not matter
-pub over : (side : ℕ) (l : List ℕ) (k v : ℕ) (xs : List ℕ) → 0 < length xs → column side (set l (2 * k + side) v) k xs ≡ column side l k xs
-over side l k v [] h = absurd (omega arith)
-over side l k v (x ∷ xs) h = column-over side l k v x xs
 
 -- a store before the column's first number may come first
 column-set : (side : ℕ) (l : List ℕ) (k : ℕ) (xs : List ℕ) (j y : ℕ) → j < 2 * k → set (column side l k xs) j y ≡ column side (set l j y) k xs

@@ -1,16 +1,12 @@
--- The free slots of a target, put one at a time, and those of all targets. Assumes nothing.
+-- The free slots of a target, and those of all targets. Assumes nothing.
 use mathlib.Core.Path.{◌≡◌, ap, sym, ◌∙◌}
-use mathlib.Core.Bool.{Bool, true, false}
-use mathlib.Core.List.{List, ◌∷◌}
-use Prim.Native.Nat.{ℕ, suc, ◌+◌, ◌-◌, ◌*◌, ◌≤◌, ◌<◌}
+use mathlib.Core.List.{List}
+use Prim.Native.Nat.{ℕ, ◌+◌, ◌-◌, ◌≤◌, ◌<◌}
 use native.Mathlib.Omega.{arith}
-use native.Mathlib.Nat.{add-zero}
 use native.Mathlib.Numerals.{add-one}
-use lib.ListN.{length, get_or, take, set, length-take}
-use Rattle.counting.specs.Tests.{bit}
+use lib.ListN.{length, get_or, take}
 use Rattle.counting.specs.Count.{select_from}
-use Rattle.counting.proofs.Tests.{by-test}
-use Rattle.counting.proofs.SelectFrom.{from_on, from-off, from-few, from_mono, from_front}
+use Rattle.counting.proofs.SelectFrom.{from_cong, from_mono, from_front}
 use Rattle.racks.specs.Racks.{Rack}
 use Rattle.racks.specs.Table.{free}
 use Rattle.racks.specs.Job.{racks_of, Sound}
@@ -23,68 +19,15 @@ use Rattle.counting.specs.Lists.{column}
 use Rattle.shares.specs.parts.Columns.{columns}
 use Rattle.shares.specs.parts.Shares.{share_of, start_of, opens_to, Stopped}
 use Rattle.shares.proofs.Targets.{opens-from}
-use Rattle.counting.proofs.Columns.{column-none, column-more}
-use Rattle.shares.proofs.Columns.{over, columns-zero, columns-suc, columns-long}
+use Rattle.spans.specs.declared.parts.Range.{Range}
+use Rattle.spans.specs.parts.Spans.{free_range, entry_in}
+use Rattle.spans.proofs.Found.{free-lies}
+use Rattle.shares.proofs.Columns.{columns-zero, columns-suc, columns-long}
 use Rattle.shares.proofs.Shares.{start-zero, stop_is}
 
--- free slots put one at a time: those of a table from g on, as the second numbers of the pairs from next up to stop, make the list all
-pub record Opening (f : ℕ → Bool) (size : ℕ) (all : List ℕ) (stop : ℕ) (lent : List ℕ) (g next : ℕ) : Type 0 where
-  pub up : next ≤ stop
-  pub within : g ≤ size
-  pub enough : stop - next ≤ length (select_from g (size - g) f)
-  pub same : column 1 lent next (take (stop - next) (select_from g (size - g) f)) ≡ all
-
-module _ (f : ℕ → Bool) (size : ℕ) (all : List ℕ) (stop : ℕ) (lent : List ℕ) (g next : ℕ) (w : Opening f size all stop lent g next) where
-  -- while a pair is left, so is a slot
-  pub opening_in : next < stop → g < size
-  opening_in l = omega (arith, w.enough, from-few g (size - g) f)
-
-  module _ (l : next < stop) where
-    rest : List ℕ
-    rest = select_from (suc g) (size - suc g) f
-
-    size_is : size - g ≡ suc (size - suc g)
-    size_is = omega (arith, opening_in l)
-
-    left_is : stop - next ≡ suc (stop - suc next)
-    left_is = omega arith
-
-    -- slot g passes: it stays where it was put
-    opening_on : f g ≡ true → Opening f size all stop (set lent (2 * next + 1) g) (suc g) (suc next)
-    unfolding rest
-    opening_on e =
-        let x : select_from g (size - g) f ≡ g ∷ rest = rw size_is (from_on g (size - suc g) f e) in
-        record {
-          up = l;
-          within = opening_in l;
-          enough = omega (arith, left_is, ap length x, w.enough);
-          same = sym (column-more 1 lent next g (take (stop - suc next) rest)) ∙ rw (left_is, x) at w.same;
-        }
-
-    -- it does not: the next one is put over it
-    opening-off : f g ≡ false → Opening f size all stop (set lent (2 * next + 1) g) (suc g) next
-    unfolding rest
-    opening-off e =
-        let x : select_from g (size - g) f ≡ rest = rw size_is (from-off g (size - suc g) f e) in
-        let h : stop - next ≤ length rest = omega (arith, ap length x, w.enough) in
-        record {
-          up = w.up;
-          within = opening_in l;
-          enough = h;
-          same = over 1 lent next g (take (stop - next) rest) (omega (arith, length-take (stop - next) rest)) ∙ rw x at w.same;
-        }
-
-    -- as the code goes on
-    pub opening-more : Opening f size all stop (set lent (2 * next + 1) g) (g + 1) (next + bit (f g))
-    opening-more = by-test (f g)
-        (λ e. rw (e, add-one g, add-one next) (opening_on e))
-        (λ e. rw (e, add-one g, add-zero) (opening-off e))
-
-  -- no pair is left
-  pub opening-done : stop ≤ next → lent ≡ all
-  opening-done l =
-      let z : stop - next ≡ 0 = omega arith in
-      sym (column-none 1 lent next) ∙ rw z at w.same
+-- the slots whose entries are the mark are the free ones
+pub marked : (places : List ℕ) (mark : Range) → mark ≡ free_range → (low n : ℕ) → select_from low n (entry_in places mark) ≡ select_from low n (free places)
+marked places mark e low n = rw e (from_cong low n (entry_in places free_range) (free places) (λ g _ _. sym (free-lies places g)))
 
 -- the free slots of the first n targets are put
 pub record OpeningsPut (racks : List Rack) (places before : List ℕ) (n k : ℕ) (lent : List ℕ) : Type 0 where

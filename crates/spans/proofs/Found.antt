@@ -4,10 +4,10 @@ use mathlib.Core.Bool.{Bool, true, false}
 use mathlib.Core.List.{List}
 use Prim.Native.Nat.{ℕ, ◌+◌, ◌-◌, ◌≤◌, ◌<◌}
 use native.Mathlib.Omega.{arith}
-use native.Mathlib.Decide.{ℕ_discrete, dec_le}
-use lib.Dec.{leb, ltb}
-use lib.ListN.{length, get_or}
-use borrow.Author.Tests.{ne_eqb, le-leb, lt-leb, le-ltb, lt-ltb, leb-true, ltb-true}
+use native.Mathlib.Decide.{ℕ_discrete}
+use lib.Dec.{leb}
+use lib.ListN.{length}
+use borrow.Author.Tests.{ne_eqb, le-leb, lt-ltb, leb-true, ltb-true}
 use Rattle.counting.specs.Tests.{◌and◌}
 use Rattle.counting.specs.Count.{select_from}
 use Rattle.counting.proofs.Tests.{off, both, and_l, and_r}
@@ -15,9 +15,8 @@ use Rattle.counting.proofs.Count.{count_le}
 use Rattle.counting.proofs.SelectFrom.{from_cong, length_from}
 use Rattle.racks.specs.Limits.{FREE}
 use Rattle.racks.specs.Table.{dest, free}
-use Rattle.racks.proofs.Table.{read-dest}
 use Rattle.spans.specs.declared.parts.Range.{Range}
-use Rattle.spans.specs.parts.Spans.{behind, lies, RangeFits, range_of, free_range, entry_in, entries_in}
+use Rattle.spans.specs.parts.Spans.{lies, RangeFits, range_of, free_range, entry_in, entries_in}
 
 -- the slots of a rack fit
 pub rack-fits : (first end : ℕ) (range : Range) → range ≡ range_of first end → first ≤ end → end ≤ 4096 → RangeFits range

@@ -1,8 +1,8 @@
 -- Laws of spans: the compare of an entry with a range, the pass over a span, and slots put into pairs. Assumes nothing.
-use mathlib.Core.Path.{◌≡◌, ap, sym, ◌∙◌}
+use mathlib.Core.Path.{◌≡◌, refl, ap, sym, ◌∙◌}
 use mathlib.Core.Bool.{Bool, true, false}
 use mathlib.Core.List.{List, [], ◌∷◌, ◌++◌}
-use Prim.Native.Nat.{ℕ, suc, ◌+◌, ◌-◌, ◌*◌, ◌≤◌, ◌<◌, min}
+use Prim.Native.Nat.{ℕ, suc, ◌+◌, ◌-◌, ◌*◌, ◌%◌, ◌≤◌, ◌<◌, min}
 use native.Mathlib.Omega.{arith}
 use native.Mathlib.Nat.{add-zero}
 use native.Mathlib.Numerals.{add-one}
@@ -10,6 +10,7 @@ use native.Mathlib.Decide.{ℕ_discrete, dec_le}
 use lib.Dec.{eqb, ltb}
 use lib.ListN.{length, get_or, take, set, length-append, length-take}
 use lib.Seq.{set-get_or, take-nil}
+use mir.Val.{bool_byte}
 use borrow.Author.Tests.{le-leb, lt-leb, le-ltb}
 use Rattle.counting.specs.Tests.{◌and◌, ◌or◌, pick, bit}
 use Rattle.counting.specs.Count.{count, some, least, select_from}
@@ -35,6 +36,13 @@ pub behind-off : (first x : ℕ) → x < first → x + (65535 - first) + 1 ≡ b
 unfolding behind
 behind-off first x l = rw (lt-leb first x l)
 
+-- one subtraction of 16 bits is that way, whichever of the two is more
+pub behind-is : (first x : ℕ) → first < 65536 → x < 65536 → (x + (65536 - first)) % 65536 ≡ behind first x
+behind-is first x f l = elim (dec_le first x) [
+  | yes m ↦ rw (← behind-on first x m) (omega arith)
+  | no m ↦ rw (← behind-off first x (omega arith)) (omega arith)
+]
+
 -- one compare says whether an entry lies in a range
 pub lies_by : (range : Range) (x : ℕ) → RangeFits range → ltb (behind range.first x) range.width ≡ lies range x
 unfolding lies ◌and◌
@@ -42,6 +50,11 @@ lies_by range x f = elim (dec_le range.first x) [
   | yes l ↦ rw (← behind-on range.first x l, le-leb range.first x l)
   | no l ↦ rw (← behind-off range.first x (omega arith), lt-leb range.first x (omega arith)) (le-ltb _ range.width (omega (arith, f)))
 ]
+
+-- a test as a number
+pub bit_is : (test : Bool) → bool_byte test ≡ bit test
+bit_is true = refl
+bit_is false = refl
 
 -- as code reads the entry
 pub lies-read : (places : List ℕ) (range : Range) (g : ℕ) → g < length places → lies range (get_or places g 0) ≡ entry_in places range g
@@ -59,7 +72,7 @@ module _ (n : ℕ) (f : ℕ → Bool) where
   lowest-zero = rw (some-zero f)
 
   -- one place more
-  pub lowest-more : (j : ℕ) → j < n → min (pick (f j) j n) (lowest_of n f j) ≡ lowest_of n f (j + 1)
+  pub lowest-more : (j : ℕ) → j < n → min (lowest_of n f j) (pick (f j) j n) ≡ lowest_of n f (j + 1)
   unfolding lowest_of ◌or◌
   lowest-more j l = by-test (some j f)
       (λ e. rw (some_more j f, e, least_kept j f e) (by-test (f j) (λ t. rw t (omega (arith, least_lt j f e))) (λ t. rw t (omega (arith, least_lt j f e)))))

@@ -47,42 +47,13 @@ pub struct Hits {
 // The slots of a piece, which a loop looks at without a branch: of so many, and always as many, the compiler makes steps of several slots.
 const PIECE: u16 = 64;
 
-// How far x lies behind `first`, where 0 follows on 65,535. Both ways are one subtraction of 16 bits.
-fn behind(first: u16, x: u16) -> u16
-    ensures { result ≡ behind first x }
-{
-    if first <= x {
-        return x - first;
-    }
-    x + (u16::MAX - first) + 1
-}
-
-// Whether an entry lies in a range: one compare, however the range lies.
+// Whether an entry lies in a range: how far it lies behind the range's first number, where 0 follows on 65,535, is one subtraction of 16 bits,
+// and so one compare does, however the range lies.
 fn lies(range: Range, x: u16) -> bool
     requires { RangeFits range }
     ensures { result ≡ lies range x }
 {
-    behind(range.first, x) < range.width
-}
-
-// One of two numbers by a test: a choice and no branch, which could not be foretold.
-fn chosen(test: bool, x: u16, y: u16) -> u16
-    ensures { result ≡ pick test x y }
-{
-    if test {
-        return x;
-    }
-    y
-}
-
-// The lower of two numbers, of 16 bits as the entries are: so a pass takes as many slots at a step as it can.
-fn lower(x: u16, y: u16) -> u16
-    ensures { result ≡ min x y }
-{
-    if x < y {
-        return x;
-    }
-    y
+    x.wrapping_sub(range.first) < range.width
 }
 
 // What the n slots from `low` on have of a range: one pass without a branch on an entry.
@@ -92,12 +63,10 @@ pub fn look(places: &[u16], low: usize, n: u16, range: Range) -> Hits
 {
     let mut count: u16 = 0;
     let mut lowest: u16 = n;
-    let mut j: u16 = 0;
-    while j < n {
+    for j in 0..n {
         let hit = lies(range, places[low + j as usize]);
-        count = count + tables::parts::one_if(hit);
-        lowest = lower(chosen(hit, j, n), lowest);
-        j = j + 1;
+        count += u16::from(hit);
+        lowest = lowest.min(if hit { j } else { n });
     }
     Hits { count, lowest }
 }
@@ -119,10 +88,11 @@ pub fn put_hits(
 {
     let mut g = low;
     let mut next = k;
+    // Kept: the next pair goes on by 0 or 1, and there are slots enough for all pairs. A `for` over the slots would have two tests a slot.
     while next < stop {
         lent[2 * next + side] = g as u16;
-        next = next + tables::parts::one_if(lies(range, places[g])) as usize;
-        g = g + 1;
+        next += usize::from(lies(range, places[g]));
+        g += 1;
     }
 }
 
@@ -143,10 +113,11 @@ fn put_piece(
     let here = look(places, low, n, range);
     let slot = low + here.lowest as usize;
     if here.count < 2 {
-        lent[2 * k] = chosen(here.count == 1, slot as u16, lent[2 * k]);
+        let stood = lent[2 * k];
+        lent[2 * k] = if here.count == 1 { slot as u16 } else { stood };
         return k + here.count as usize;
     }
-    let end = racks::parts::smaller(k + here.count as usize, stop);
+    let end = (k + here.count as usize).min(stop);
     put_hits(places, slot, range, lent, 0, k, end);
     end
 }
@@ -165,9 +136,8 @@ pub fn put_span(
     requires { (low ≤ high) × Puttable places.now range low (high - low) lent.old stop × (k ≤ stop) }
     ensures { SlotsPut lent.old k (take (stop - k) (select_from low (high - low) (entry_in places.now range))) result lent.new }
 {
-    let mut g = low;
     let mut next = k;
-    while g < high {
+    for g in (low..high).step_by(PIECE as usize) {
         if next == stop {
             return next;
         }
@@ -175,7 +145,6 @@ pub fn put_span(
             return put_piece(places, g, (high - g) as u16, range, lent, next, stop);
         }
         next = put_piece(places, g, PIECE, range, lent, next, stop);
-        g = g + PIECE as usize;
     }
     next
 }
@@ -187,10 +156,8 @@ pub fn count_in(places: &[u16], low: usize, n: u16, range: Range) -> u16
     ensures { result ≡ entries_in places.now range low n }
 {
     let mut found: u16 = 0;
-    let mut k: u16 = 0;
-    while k < n {
-        found = found + tables::parts::one_if(lies(range, places[low + k as usize]));
-        k = k + 1;
+    for k in 0..n {
+        found += u16::from(lies(range, places[low + k as usize]));
     }
     found
 }

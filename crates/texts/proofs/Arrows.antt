@@ -1,7 +1,8 @@
 -- Laws of arrows: a slot and an arrow as code writes them, the arrows of a list one by one, how long they are. Assumes nothing.
-use mathlib.Core.Path.{◌≡◌}
-use mathlib.Core.List.{List, [], ◌∷◌, ◌++◌}
-use Prim.Native.Nat.{ℕ, ◌+◌, ◌*◌, ◌≤◌, ◌<◌}
+use mathlib.Core.Path.{◌≡◌, refl}
+use mathlib.Core.List.{List, [], ◌∷◌}
+use Prim.Native.Nat.{ℕ, zero, suc, ◌+◌, ◌*◌, ◌/◌, ◌≤◌, ◌<◌}
+use native.Mathlib.Numerals.{add-one}
 use native.Mathlib.Omega.{arith}
 use native.Mathlib.Decide.{ℕ_discrete}
 use borrow.Author.Tests.{eq-eqb, ne_eqb}
@@ -9,12 +10,9 @@ use lib.ListN.{length, get_or, length-append}
 use Rattle.counting.specs.Lists.{Pair, join, each}
 use Rattle.counting.specs.Every.All.{none, more}
 use Rattle.racks.specs.Limits.{HAND}
-use Rattle.carrying.specs.parts.Carrying.{pairs_in, Slots, AllSlots}
-use Rattle.carrying.proofs.Flat.{pairs-more, pairs-none}
+use Rattle.carrying.specs.parts.Carrying.{unflat, Slots, AllSlots}
 use Rattle.texts.specs.Text.{text, decimal}
 use Rattle.texts.specs.Lines.{slot_text, arrow}
-use Rattle.texts.specs.parts.Writing.{Reaches, Wrote}
-use Rattle.texts.proofs.Writing.{Left, room-first, left-room, left-next, left-done}
 use Rattle.texts.proofs.Digits.{length-decimal-5}
 
 -- the hand
@@ -49,30 +47,19 @@ unfolding join each
 arrows-small [] none = omega arith
 arrows-small (m ∷ ms) (more p r) = simp length-append (omega (arith, arrow-small m p, arrows-small ms r))
 
-module _ (list : List ℕ) (i high : ℕ) (fits : high ≤ length list) where
-  -- the first arrow, and those after it
-  pub arrows-more : i + 2 ≤ high
-      → join (each arrow (pairs_in list i high)) ≡ arrow (get_or list i 0, get_or list (i + 1) 0) ++ join (each arrow (pairs_in list (i + 2) high))
-  unfolding join each
-  arrows-more h = rw (pairs-more list i high fits h)
+-- a list of numbers has half as many pairs
+pub unflat-long : (list : List ℕ) → length (unflat list) ≡ length list / 2
+unfolding unflat
+unflat-long [] = refl
+unflat-long (x ∷ []) = refl
+unflat-long (x ∷ (y ∷ list)) = omega (arith, unflat-long list)
 
-  -- no arrow is left
-  pub arrows-none : high < i + 2 → join (each arrow (pairs_in list i high)) ≡ []
-  unfolding join each
-  arrows-none h = rw (pairs-none list i high fits h)
-
-  module _ {words l m : List ℕ} {start at : ℕ} (left : Left (join (each arrow (pairs_in list i high))) m at words l start) where
-    -- the first arrow that is left fits
-    pub arrow-room : i + 2 ≤ high → Reaches words start l → Reaches (arrow (get_or list i 0, get_or list (i + 1) 0)) at m
-    arrow-room h room =
-        room-first (arrow (get_or list i 0, get_or list (i + 1) 0)) (join (each arrow (pairs_in list (i + 2) high))) m at
-        (left-room (rw (arrows-more h) at left) room)
-
-    -- it is written
-    pub arrow-next : {n : List ℕ} {k : ℕ} → i + 2 ≤ high → Wrote (arrow (get_or list i 0, get_or list (i + 1) 0)) m at n k
-        → Left (join (each arrow (pairs_in list (i + 2) high))) n k words l start
-    arrow-next h w = left-next (rw (arrows-more h) at left) w
-
-    -- all are written
-    pub arrows-done : high < i + 2 → Wrote words l start m at
-    arrows-done h = left-done (rw (arrows-none h) at left)
+-- pair i is of its numbers 2 i and 2 i + 1
+pub unflat-at : (list : List ℕ) (i : ℕ) → i < length list / 2 → get_or (unflat list) i (0, 0) ≡ (get_or list (2 * i) 0, get_or list (2 * i + 1) 0)
+unfolding unflat
+unflat-at [] i h = absurd (omega arith)
+unflat-at (x ∷ []) i h = absurd (omega arith)
+unflat-at (x ∷ (y ∷ list)) zero h = refl
+unflat-at (x ∷ (y ∷ list)) (suc i) h =
+    let e : 2 * suc i ≡ suc (suc (2 * i)) = omega arith in
+    rw (e, add-one) (rw add-one at (unflat-at list i (omega arith)))

@@ -1,20 +1,19 @@
--- Laws of the cards' text: the bytes of a slot and the slots one by one, how long they are. Assumes nothing.
-use mathlib.Core.Path.{◌≡◌, refl, sym, ◌∙◌}
-use mathlib.Core.List.{List, [], ◌∷◌, ◌++◌}
+-- Laws of the cards' text: the bytes of a slot, the slots one by one, how long they are. Assumes nothing.
+use mathlib.Core.Path.{◌≡◌, refl}
+use mathlib.Core.List.{List, [], ◌∷◌}
 use Prim.Native.Nat.{ℕ, zero, suc, ◌+◌, ◌*◌, ◌≤◌, ◌<◌}
 use native.Mathlib.Omega.{arith}
 use native.Mathlib.Nat.{zero-mul, suc-mul}
 use native.Mathlib.Numerals.{add-one}
-use lib.ListN.{length, drop, get_or, length-append}
-use lib.Seq.{drop-cons, drop-length}
+use lib.ListN.{length, length-append}
 use Rattle.counting.specs.Lists.{join, each, tabulate}
 use Rattle.counting.proofs.Lists.{join_more}
 use Rattle.moves.specs.Blocks.{block}
-use Rattle.moves.proofs.Blocks.{below, block_at, block-long}
+use Rattle.moves.proofs.Blocks.{below, block-long}
 use Rattle.texts.specs.Text.{hex}
 use Rattle.texts.specs.Lines.{card_text}
 use Rattle.texts.specs.parts.Writing.{Reaches, Wrote}
-use Rattle.texts.proofs.Writing.{Left, room-first, wrote-length, wrote_then, left-first, left-room, left-next, left-done}
+use Rattle.texts.proofs.Writing.{wrote-length, wrote_then}
 use Rattle.texts.proofs.Digits.{length-hex}
 
 -- two digits for each byte
@@ -22,15 +21,6 @@ pub length-hexes : (l : List ℕ) → length (join (each hex l)) ≡ 2 * length 
 unfolding join each
 length-hexes [] = refl
 length-hexes (x ∷ l) = simp length-append (omega (arith, length-hex x, length-hexes l))
-
--- the bytes of slot g from its byte j on, in hexadecimal
-unfoldable pub hexes : ℕ → ℕ → List ℕ → ℕ → List ℕ
-hexes b g cards j = join (each hex (drop j (block b g cards)))
-
--- at first all of them are left
-pub hexes-first : (b g : ℕ) (cards l : List ℕ) (at : ℕ) → Left (hexes b g cards 0) l at (join (each hex (block b g cards))) l at
-unfolding hexes
-hexes-first b g cards l at = left-first (join (each hex (block b g cards))) l at
 
 module _ (b g : ℕ) (cards : List ℕ) (fits : g * b + b ≤ length cards) where
   -- a slot has b bytes
@@ -41,31 +31,6 @@ module _ (b g : ℕ) (cards : List ℕ) (fits : g * b + b ≤ length cards) wher
   pub length-card : length (card_text b cards g) ≡ 1 + 2 * b
   unfolding card_text
   length-card = omega (arith, length-hexes (block b g cards), length-bytes)
-
-  -- the first byte, and those after it
-  hexes-more : (j : ℕ) → j < b → hexes b g cards j ≡ hex (get_or cards (g * b + j) 0) ++ hexes b g cards (j + 1)
-  unfolding hexes join each
-  hexes-more j h =
-      let lt : j < length (block b g cards) = omega (arith, length-bytes) in
-      rw (drop-cons (block b g cards) j 0 lt, add-one, block_at b g cards j h)
-
-  -- no byte is left
-  hexes-none : (j : ℕ) → j ≡ b → hexes b g cards j ≡ []
-  unfolding hexes join each
-  hexes-none j e = rw (e ∙ sym length-bytes, drop-length (block b g cards))
-
-  module _ (j : ℕ) {words l m : List ℕ} {start at : ℕ} (left : Left (hexes b g cards j) m at words l start) where
-    -- the first byte that is left fits
-    pub byte-room : j < b → Reaches words start l → Reaches (hex (get_or cards (g * b + j) 0)) at m
-    byte-room h room = room-first (hex (get_or cards (g * b + j) 0)) (hexes b g cards (j + 1)) m at (left-room (rw (hexes-more j h) at left) room)
-
-    -- it is written
-    pub byte_next : {n : List ℕ} {k : ℕ} → j < b → Wrote (hex (get_or cards (g * b + j) 0)) m at n k → Left (hexes b g cards (j + 1)) n k words l start
-    byte_next h w = left-next (rw (hexes-more j h) at left) w
-
-    -- all are written
-    pub bytes-done : j ≡ b → Wrote words l start m at
-    bytes-done e = left-done (rw (hexes-none j e) at left)
 
 module _ (b : ℕ) (cards : List ℕ) where
   -- the text of s slots: a space and two digits for each byte, for each slot

@@ -3,9 +3,11 @@ use mathlib.Core.Path.{◌≡◌, refl, ap, ◌∙◌}
 use mathlib.Core.List.{List, [], ◌++◌}
 use Prim.Native.Nat.{ℕ, ◌+◌, ◌≤◌, ◌<◌}
 use native.Mathlib.Omega.{arith}
-use lib.ListN.{length, take, get_or, set, length-append}
-use lib.Seq.{sets, length-sets, take_all}
-use Rattle.counting.proofs.Stores.{sets-append, sets-take}
+use native.Mathlib.Numerals.{add-one}
+use lib.ListN.{length, drop, get_or, length-append, drop_of_length-le}
+use Rattle.counting.specs.Lists.{join, each}
+use lib.Seq.{sets, length-sets, drop-cons}
+use Rattle.counting.proofs.Stores.{sets-append}
 use Rattle.texts.specs.parts.Writing.{Reaches, Wrote}
 
 -- what fits, its first part fits
@@ -55,11 +57,26 @@ module _ {words l m : List ℕ} {i j : ℕ} where
   pub left-done : Left [] m j words l i → Wrote words l i m j
   left-done left = record { stored = left.to_store; behind = omega (arith, left.to_end) }
 
-module _ (word l : List ℕ) (at : ℕ) where
-  -- one byte more of a word
-  pub taken_next : (now : List ℕ) (i : ℕ) → i < length word → now ≡ sets l at (take i word) → set now (at + i) (get_or word i 0) ≡ sets l at (take (i + 1) word)
-  taken_next now i h e = rw (e, sets-take word l at i h)
+-- a list's items written one by one: those from item j on are left
+module _ {A : Type 0} (f : A → List ℕ) (xs : List A) (other : A) (j : ℕ) {l m : List ℕ} {start at : ℕ} (left : Left (join (each f (drop j xs))) m at (join (each f xs)) l start) where
+  -- the first that is left, and those after it
+  items-more : j < length xs → join (each f (drop j xs)) ≡ f (get_or xs j other) ++ join (each f (drop (j + 1) xs))
+  unfolding join each
+  items-more h = rw (drop-cons xs j other h, add-one)
 
-  -- all bytes of a word
-  pub taken-all : (now : List ℕ) (i : ℕ) → length word ≤ i → now ≡ sets l at (take i word) → Wrote word l at now (at + length word)
-  taken-all now i h e = record { stored = e ∙ rw (take_all i word h); behind = refl }
+  -- no item is left
+  items-none : length xs ≤ j → join (each f (drop j xs)) ≡ []
+  unfolding join each
+  items-none h = rw (drop_of_length-le xs {i = j} h)
+
+  -- the first that is left fits
+  pub item-room : j < length xs → Reaches (join (each f xs)) start l → Reaches (f (get_or xs j other)) at m
+  item-room h room = room-first (f (get_or xs j other)) (join (each f (drop (j + 1) xs))) m at (left-room (rw (items-more h) at left) room)
+
+  -- it is written
+  pub item-next : {n : List ℕ} {k : ℕ} → j < length xs → Wrote (f (get_or xs j other)) m at n k → Left (join (each f (drop (j + 1) xs))) n k (join (each f xs)) l start
+  item-next h w = left-next (rw (items-more h) at left) w
+
+  -- all are written
+  pub items-done : length xs ≤ j → Wrote (join (each f xs)) l start m at
+  items-done h = left-done (rw (items-none h) at left)

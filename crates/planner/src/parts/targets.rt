@@ -15,7 +15,7 @@ pub fn count_target(places: &[u16], first: u16, end: u16) -> usize
     let below = spans::parts::look(places, 0, first, range);
     let above = spans::parts::look(places, end as usize, slots - end, range);
     let coming = below.count as usize + above.count as usize;
-    racks::parts::smaller(coming, free.count as usize)
+    coming.min(free.count as usize)
 }
 
 // The pairs of the rack from `first` up to `end`, into the list from pair k on. A card is bound for it exactly if its entry lies between the
@@ -35,7 +35,7 @@ pub fn put_target(
 {
     let range = Range::of(first, end);
     let free = spans::parts::look(places, first as usize, end - first, Range::free());
-    let stop = racks::parts::smaller(k + free.count as usize, most);
+    let stop = (k + free.count as usize).min(most);
     let below = spans::parts::put_span(places, 0, first as usize, range, lent, k, stop);
     let high = places.len();
     let above = spans::parts::put_span(places, end as usize, high, range, lent, below, stop);

@@ -12,16 +12,6 @@ ghost use Rattle.shares.specs.parts.Cards.{Grantable, CardGranted};
 
 use racks::Job;
 
-// One of two numbers by a test: a choice and no branch.
-fn chosen(test: bool, x: u16, y: u16) -> u16
-    ensures { result ≡ pick test x y }
-{
-    if test {
-        return x;
-    }
-    y
-}
-
 // Whether a target takes a card: it comes from another rack, and the target's share is not used up.
 fn takes_card(from: u8, to: u8, next: u16, stop: u16) -> bool
     ensures { result ≡ not (eqb from to) and ltb next stop }
@@ -49,9 +39,10 @@ fn grant_card(
     let to = racking[tables::parts::named_slot(places[g], g)];
     let next = nexts[to as usize];
     let taken = takes_card(racking[g], to, next, stops[to as usize]);
-    let at = chosen(taken, 2 * next, 0) as usize;
-    lent[at] = chosen(taken, g as u16, lent[at]);
-    let one = tables::parts::one_if(taken);
+    let at = if taken { 2 * next as usize } else { 0 };
+    let stood = lent[at];
+    lent[at] = if taken { g as u16 } else { stood };
+    let one = u16::from(taken);
     nexts[to as usize] = next + one;
     one
 }
@@ -71,12 +62,10 @@ pub fn grant_cards(
     ensures { lent.new ≡ columns 0 (length (racks_of job)) (start_of (racks_of job) places.now) (cards_to (racks_of job) places.now (slots (racks_of job))) lent.old }
 {
     let mut put: usize = 0;
-    let mut g: usize = 0;
-    while g < job.slots {
+    for g in 0..job.slots {
         if put == pairs {
             return;
         }
-        put = put + grant_card(places, racking, g, nexts, stops, lent) as usize;
-        g = g + 1;
+        put += grant_card(places, racking, g, nexts, stops, lent) as usize;
     }
 }

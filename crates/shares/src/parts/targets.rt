@@ -21,7 +21,7 @@ fn count_target(places: &[u16], first: u16, end: u16) -> usize
     let below = spans::parts::count_in(places, 0, first, range);
     let above = spans::parts::count_in(places, end as usize, slots - end, range);
     let free = spans::parts::count_in(places, first as usize, end - first, Range::free());
-    racks::parts::smaller((below + above) as usize, free as usize)
+    (below + above).min(free) as usize
 }
 
 // Each target's share of the list, one behind another: where it begins, which is where its next pair stands, and where it stops. Gives how
@@ -37,14 +37,12 @@ pub fn share_out(
 {
     let mut pairs: usize = 0;
     let mut low: u16 = 0;
-    let mut p: usize = 0;
-    while p < job.racks {
+    for p in 0..job.racks {
         let high = job.ends[p];
         nexts[p] = pairs as u16;
-        pairs = pairs + count_target(places, low, high);
+        pairs += count_target(places, low, high);
         stops[p] = pairs as u16;
         low = high;
-        p = p + 1;
     }
     pairs
 }

@@ -1,7 +1,6 @@
 // Slots and arrows, written into a lent buffer.
-ghost use Rattle.std.specs.Prelude.{◌≤◌, length};
 ghost use Rattle.counting.specs.Lists.{join, each};
-ghost use Rattle.carrying.specs.parts.Carrying.{pairs_in};
+ghost use Rattle.carrying.specs.parts.Carrying.{unflat};
 ghost use Rattle.texts.specs.Lines.{slot_text, arrow};
 ghost use Rattle.texts.specs.parts.Writing.{Reaches, Wrote};
 
@@ -30,16 +29,14 @@ pub fn put_arrow(out: &mut [u8], at: usize, from: u16, to: u16) -> usize
     put_slot(out, second, to)
 }
 
-// The arrows of the pairs that stand in a list from index `low` up to `high`.
-pub fn put_arrows(out: &mut [u8], at: usize, pairs: &[u16], low: usize, high: usize) -> usize
-    requires { (low ≤ high) × (high ≤ length pairs.now) × Reaches (join (each arrow (pairs_in pairs.now low high))) at out.old }
-    ensures { Wrote (join (each arrow (pairs_in pairs.now low high))) out.old at out.new result }
+// The arrows of the pairs of a list of numbers.
+pub fn put_arrows(out: &mut [u8], at: usize, pairs: &[u16]) -> usize
+    requires { Reaches (join (each arrow (unflat pairs.now))) at out.old }
+    ensures { Wrote (join (each arrow (unflat pairs.now))) out.old at out.new result }
 {
     let mut next = at;
-    let mut i = low;
-    while i + 2 <= high {
-        next = put_arrow(out, next, pairs[i], pairs[i + 1]);
-        i = i + 2;
+    for i in 0..pairs.len() / 2 {
+        next = put_arrow(out, next, pairs[2 * i], pairs[2 * i + 1]);
     }
     next
 }

@@ -1,57 +1,33 @@
 // The lines of the listing, written into a lent buffer.
 ghost use Rattle.std.specs.Prelude.{◌≡◌, ◌+◌, ◌*◌, ◌≤◌, length};
-ghost use Rattle.counting.specs.Lists.{join, each, tabulate};
-ghost use Rattle.moves.specs.Blocks.{block};
-ghost use Rattle.carrying.specs.parts.Carrying.{pairs_in};
-ghost use Rattle.texts.specs.Text.{hex};
+ghost use Rattle.counting.specs.Lists.{join, tabulate};
+ghost use Rattle.carrying.specs.parts.Carrying.{unflat};
 ghost use Rattle.texts.specs.Lines.{copies_line, card_text, cards_line, end_line, refused_line, phase_line};
 ghost use Rattle.texts.specs.parts.Writing.{Reaches, Wrote};
 
 use crate::parts::{arrows, words};
 use answers::Tally;
 
-// A phase line, of the pairs that stand in a list from index `low` up to `high`.
-pub fn put_phase(
-    out: &mut [u8],
-    at: usize,
-    k: usize,
-    pairs: &[u16],
-    low: usize,
-    high: usize,
-) -> usize
-    requires { (low ≤ high) × (high ≤ length pairs.now) × Reaches (phase_line k (pairs_in pairs.now low high)) at out.old }
-    ensures { Wrote (phase_line k (pairs_in pairs.now low high)) out.old at out.new result }
+// A phase line, of the pairs of a list of numbers.
+pub fn put_phase(out: &mut [u8], at: usize, k: usize, pairs: &[u16]) -> usize
+    requires { Reaches (phase_line k (unflat pairs.now)) at out.old }
+    ensures { Wrote (phase_line k (unflat pairs.now)) out.old at out.new result }
 {
     let mut next = words::put_text(out, at, b"phase ");
     next = words::put_decimal(out, next, k);
     next = words::put_byte(out, next, b':');
-    next = arrows::put_arrows(out, next, pairs, low, high);
+    next = arrows::put_arrows(out, next, pairs);
     words::put_byte(out, next, b'\n')
 }
 
-// The line of the copies that stand at the front of a list.
-pub fn put_copies(out: &mut [u8], at: usize, list: &[u16], high: usize) -> usize
-    requires { (high ≤ length list.now) × Reaches (copies_line (pairs_in list.now 0 high)) at out.old }
-    ensures { Wrote (copies_line (pairs_in list.now 0 high)) out.old at out.new result }
+// The line of the copies of a list of numbers.
+pub fn put_copies(out: &mut [u8], at: usize, list: &[u16]) -> usize
+    requires { Reaches (copies_line (unflat list.now)) at out.old }
+    ensures { Wrote (copies_line (unflat list.now)) out.old at out.new result }
 {
     let mut next = words::put_text(out, at, b"copies:");
-    next = arrows::put_arrows(out, next, list, 0, high);
+    next = arrows::put_arrows(out, next, list);
     words::put_byte(out, next, b'\n')
-}
-
-// The bytes of slot g.
-pub fn put_block(out: &mut [u8], at: usize, b: usize, cards: &[u8], g: usize) -> usize
-    requires { (g * b + b ≤ length cards.now) × Reaches (join (each hex (block b g cards.now))) at out.old }
-    ensures { Wrote (join (each hex (block b g cards.now))) out.old at out.new result }
-{
-    let low = g * b;
-    let mut next = at;
-    let mut j: usize = 0;
-    while j < b {
-        next = words::put_hex(out, next, cards[low + j]);
-        j = j + 1;
-    }
-    next
 }
 
 // A space, then the bytes of slot g.
@@ -60,7 +36,8 @@ pub fn put_card(out: &mut [u8], at: usize, b: usize, cards: &[u8], g: usize) -> 
     ensures { Wrote (card_text b cards.now g) out.old at out.new result }
 {
     let next = words::put_byte(out, at, b' ');
-    put_block(out, next, b, cards, g)
+    let low = g * b;
+    words::put_hexes(out, next, &cards[low..low + b])
 }
 
 // The bytes of each slot, a space before each.
@@ -69,10 +46,8 @@ pub fn put_slots(out: &mut [u8], at: usize, s: usize, b: usize, cards: &[u8]) ->
     ensures { Wrote (join (tabulate s (card_text b cards.now))) out.old at out.new result }
 {
     let mut next = at;
-    let mut g: usize = 0;
-    while g < s {
+    for g in 0..s {
         next = put_card(out, next, b, cards, g);
-        g = g + 1;
     }
     next
 }

@@ -1,5 +1,6 @@
 // Words and numbers, written into a lent buffer.
 ghost use Rattle.std.specs.Prelude.{◌≡◌, [], ◌∷◌, ◌<◌};
+ghost use Rattle.counting.specs.Lists.{join, each};
 ghost use Rattle.texts.specs.Text.{digit, decimal, hex};
 ghost use Rattle.texts.specs.parts.Writing.{Reaches, Wrote};
 
@@ -8,7 +9,7 @@ pub fn put_text(out: &mut [u8], at: usize, word: &[u8]) -> usize
     requires { Reaches word.now at out.old }
     ensures { Wrote word.now out.old at out.new result }
 {
-    racks::parts::put_bytes(out, at, word);
+    racks::parts::put(out, at, word);
     at + word.len()
 }
 
@@ -51,4 +52,16 @@ pub fn put_hex(out: &mut [u8], at: usize, x: u8) -> usize
 {
     let next = put_byte(out, at, digit_of(x / 16));
     put_byte(out, next, digit_of(x % 16))
+}
+
+// Bytes in hexadecimal, with nothing between them.
+pub fn put_hexes(out: &mut [u8], at: usize, bytes: &[u8]) -> usize
+    requires { Reaches (join (each hex bytes.now)) at out.old }
+    ensures { Wrote (join (each hex bytes.now)) out.old at out.new result }
+{
+    let mut next = at;
+    for x in bytes {
+        next = put_hex(out, next, *x);
+    }
+    next
 }

@@ -1,4 +1,3 @@
-use Prim.Native.Nat.{◌-◌}
 use native.Mathlib.Omega.{arith}
 use Rattle.counting.specs.Lists.{each}
 use Rattle.racks.specs.Job.{racks_of}
@@ -37,9 +36,6 @@ offset_bounds-job-p-in-loop-p c = omega (arith, (next (goal.at.offset_bounds-job
 
 pub bounds-job-p-in-loop-p : goal.bounds-job-p-in-loop-p
 bounds-job-p-in-loop-p c = (next (goal.at.bounds-job-p-in-loop-p c).In-loop-p).rack
-
-pub overflow_add-p : goal.overflow_add-p
-overflow_add-p c = omega (arith, (next (goal.at.overflow_add-p c).In-loop-p).rack)
 
 pub loop-p-preserved : goal.loop-p-preserved
 loop-p-preserved c =

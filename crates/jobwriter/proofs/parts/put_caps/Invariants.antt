@@ -1,4 +1,3 @@
-use Prim.Native.Nat.{◌-◌}
 use lib.ListN.{take}
 use Rattle.counting.specs.Lists.{each}
 use Rattle.racks.specs.Job.{racks_of}
@@ -9,6 +8,3 @@ use Rattle.jobwriter.proofs.parts.put_caps.Given as goal
 
 abbrev pub invariant-loop-p : goal.invariant-loop-p
 invariant-loop-p l = At l.job l.p l.low × Put (numerals_of (take l.p (each cap_of (racks_of l.job)))) l.initial.out l.at l.out l.next
-
-abbrev pub decreases-loop-p : goal.decreases-loop-p
-decreases-loop-p l = l.job.racks - l.p

@@ -1,5 +1,4 @@
 use mathlib.Core.Path.{◌≡◌}
-use Prim.Native.Nat.{◌-◌}
 use lib.ListN.{length}
 use Rattle.racks.specs.Job.{racks_of}
 use Rattle.racks.proofs.Passing.{At}
@@ -8,6 +7,3 @@ use Rattle.planner.proofs.parts.count_pairs.Given as goal
 
 abbrev pub invariant-loop-p : goal.invariant-loop-p
 invariant-loop-p l = At l.job l.p l.low × (l.pairs ≡ length (pairs_up_to (racks_of l.job) l.places l.p))
-
-abbrev pub decreases-loop-p : goal.decreases-loop-p
-decreases-loop-p l = l.job.racks - l.p

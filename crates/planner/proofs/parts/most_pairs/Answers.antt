@@ -2,7 +2,7 @@ use native.Mathlib.Omega.{arith}
 use Rattle.racks.specs.Job.{racks_of}
 use Rattle.racks.proofs.Jobs.{sound-slots, slots-few}
 use Rattle.plans.proofs.Plans.{plan-few}
-use Rattle.planner.proofs.Targets.{free-fits}
+use Rattle.spans.proofs.Found.{free-fits}
 use Rattle.planner.proofs.Pairs.{free-covers, free-few}
 use Rattle.planner.proofs.parts.most_pairs.Goals as goal
 

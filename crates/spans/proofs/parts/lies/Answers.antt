@@ -1,5 +1,6 @@
-use Rattle.spans.proofs.Spans.{lies_by}
+use native.Mathlib.Omega.{arith}
+use Rattle.spans.proofs.Spans.{behind-is, lies_by}
 use Rattle.spans.proofs.parts.lies.Goals as goal
 
 pub returns : goal.returns
-returns c = rw c.behind.ensures (lies_by _ _ c.requires)
+returns c = rw (behind-is c.args.range.first c.args.x (omega arith) (omega arith)) (lies_by _ _ c.requires)

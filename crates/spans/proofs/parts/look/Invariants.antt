@@ -1,5 +1,5 @@
 use mathlib.Core.Path.{◌≡◌}
-use Prim.Native.Nat.{◌+◌, ◌-◌, ◌≤◌}
+use Prim.Native.Nat.{◌+◌}
 use Rattle.counting.specs.Count.{count}
 use Rattle.spans.specs.parts.Spans.{entry_in}
 use Rattle.spans.proofs.Spans.{lowest_of}
@@ -7,7 +7,4 @@ use Rattle.spans.proofs.parts.look.Given as goal
 
 abbrev pub invariant-loop-j : goal.invariant-loop-j
 invariant-loop-j l =
-    (l.j ≤ l.n) × (l.count ≡ count l.j (λ i. entry_in l.places l.range (l.low + i))) × (l.lowest ≡ lowest_of l.n (λ i. entry_in l.places l.range (l.low + i)) l.j)
-
-abbrev pub decreases-loop-j : goal.decreases-loop-j
-decreases-loop-j l = l.n - l.j
+    (l.count ≡ count l.j (λ i. entry_in l.places l.range (l.low + i))) × (l.lowest ≡ lowest_of l.n (λ i. entry_in l.places l.range (l.low + i)) l.j)

@@ -1,13 +1,13 @@
 use native.Mathlib.Omega.{arith}
 use mathlib.Core.Path.{◌≡◌, refl, ap, ◌∙◌}
-use Prim.Native.Nat.{◌-◌, ◌≤◌, ◌<◌}
+use Prim.Native.Nat.{◌≤◌, ◌<◌}
 use lib.ListN.{length, length-set}
 use Rattle.counting.specs.Tests.{bit}
 use Rattle.counting.proofs.Tests.{bit_le}
 use Rattle.spans.specs.parts.Spans.{entry_in}
-use Rattle.spans.proofs.Spans.{lies-read, putting_in, putting-more, putting-done}
+use Rattle.spans.proofs.Spans.{bit_is, lies-read, putting_in, putting-more, putting-done}
 use Rattle.spans.proofs.parts.put_hits.Goals as goal
-use Rattle.spans.proofs.parts.put_hits.Goals.{After-one_if, In-loop-next}
+use Rattle.spans.proofs.parts.put_hits.Goals.{After-from-next, In-loop-next}
 
 pub loop-next-init : goal.loop-next-init
 loop-next-init c = (refl, record { up = omega arith; within = omega arith; enough = omega arith; same = refl })
@@ -32,15 +32,12 @@ pub lies-requires : goal.lies-requires
 lies-requires c = c.requires.low_in_bounds.2
 
 -- what is added: whether the entry lies in the range
-adds : (c : After-one_if) → c.one_if.result ≡ bit (entry_in c.args.places.now c.args.range c.loop-next.g)
-adds c = c.one_if.ensures ∙ ap bit (c.lies.ensures ∙ lies-read _ _ _ ((putting_in _ _ _ _ _ _ _ _ c.loop-next.invariant.1 (omega arith))))
+adds : (c : After-from-next) → c.from-next.result ≡ bit (entry_in c.args.places.now c.args.range c.loop-next.g)
+adds c = c.from-next.ensures ∙ bit_is _ ∙ ap bit (c.lies.ensures ∙ lies-read _ _ _ (putting_in _ _ _ _ _ _ _ _ c.loop-next.invariant.1 (omega arith)))
 
 -- which is 0 or 1
-one : (c : After-one_if) → c.one_if.result ≤ 1
+one : (c : After-from-next) → c.from-next.result ≤ 1
 one c = bit_le _ (entry_in c.args.places.now c.args.range c.loop-next.g) (adds c)
-
-pub overflow_cast-next : goal.overflow_cast-next
-overflow_cast-next c = omega (arith, one c)
 
 pub overflow_add-next : goal.overflow_add-next
 overflow_add-next c = omega (arith, one c)

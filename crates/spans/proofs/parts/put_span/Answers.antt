@@ -1,5 +1,5 @@
 use native.Mathlib.Omega.{arith}
-use Prim.Native.Nat.{◌-◌, ◌*◌, ◌≤◌, ◌<◌}
+use Prim.Native.Nat.{◌*◌, ◌≤◌, ◌<◌}
 use lib.ListN.{length}
 use Rattle.spans.proofs.Spans.{spanned-none, spanned-up, spanned-long, spanned-more, spanned-all, spanned-full}
 use Rattle.spans.proofs.parts.put_span.Goals as goal
@@ -39,13 +39,15 @@ put_piece-next-requires c =
     let l = c.loop-g in
     (record { within = omega (arith, c.requires.1.within, l.invariant.from); small = c.requires.1.small; fits = c.requires.1.fits; room = room (goal.at.put_piece-next-requires c).Else-next-stop }, left (goal.at.put_piece-next-requires c).Else-next-stop)
 
-pub overflow_add-g-in-loop-g : goal.overflow_add-g-in-loop-g
-overflow_add-g-in-loop-g c = omega (arith, within (goal.at.overflow_add-g-in-loop-g c).Else-next-stop)
-
 pub loop-g-preserved : goal.loop-g-preserved
 loop-g-preserved c =
     let l = c.loop-g in
     spanned-more _ _ _ _ _ _ _ _ _ l.invariant 64 (omega arith) _ _ c.put_piece-next.ensures
+
+pub returns-else-high-g : goal.returns-else-high-g
+returns-else-high-g c =
+    let l = c.loop-g in
+    spanned-all _ _ _ _ _ _ _ _ _ (spanned-more _ _ _ _ _ _ _ _ _ l.invariant 64 (omega arith) _ _ c.put_piece-next.ensures) (omega arith)
 
 pub returns : goal.returns
 returns c = spanned-all _ _ _ _ _ _ _ _ _ c.loop-g.invariant (omega arith)

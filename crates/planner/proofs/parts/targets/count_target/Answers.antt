@@ -1,6 +1,7 @@
 use native.Mathlib.Omega.{arith}
 use Rattle.spans.specs.parts.Spans.{RangeFits}
-use Rattle.planner.proofs.Targets.{rack-fits, free-fits, pairs-counted}
+use Rattle.spans.proofs.Found.{rack-fits, free-fits}
+use Rattle.planner.proofs.Targets.{pairs-counted}
 use Rattle.planner.proofs.parts.targets.count_target.Goals as goal
 use Rattle.planner.proofs.parts.targets.count_target.Goals.{After-of-range}
 
@@ -19,4 +20,4 @@ look-above-requires c = (omega (arith, c.requires.within), fits (goal.at.look-ab
 
 pub returns : goal.returns
 returns c =
-    pairs-counted _ _ _ _ _ c.of-range.ensures c.free.ensures _ _ _ c.look-free.ensures c.look-below.ensures c.look-above.ensures _ c.smaller.ensures
+    pairs-counted _ _ _ _ _ c.of-range.ensures c.free.ensures _ _ _ c.look-free.ensures c.look-below.ensures c.look-above.ensures _ c.min.ensures

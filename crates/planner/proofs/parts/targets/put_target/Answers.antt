@@ -5,9 +5,10 @@ use lib.ListN.{length}
 use Rattle.spans.specs.parts.Spans.{RangeFits}
 use Rattle.planner.specs.parts.Targets.{opens_of}
 use Rattle.spans.proofs.Spans.{put-long, put_up}
-use Rattle.planner.proofs.Targets.{rack-fits, free-fits, opens-here, target_up, target-enough, target-put}
+use Rattle.spans.proofs.Found.{rack-fits, free-fits}
+use Rattle.planner.proofs.Targets.{opens-here, target_up, target-enough, target-put}
 use Rattle.planner.proofs.parts.targets.put_target.Goals as goal
-use Rattle.planner.proofs.parts.targets.put_target.Goals.{After-of-range, After-smaller-stop}
+use Rattle.planner.proofs.parts.targets.put_target.Goals.{After-of-range, After-min-stop}
 
 pub look-free-requires : goal.look-free-requires
 look-free-requires c = (omega (arith, c.requires.0.up, c.requires.0.within), free-fits _ c.free.ensures)
@@ -17,20 +18,20 @@ fits : (c : After-of-range) → RangeFits c.of-range.result
 fits c = rack-fits _ _ _ c.of-range.ensures c.requires.0.up (omega (arith, c.requires.0.within, c.requires.0.small))
 
 -- the pairs end where its free slots do, or the list
-stop_is : (c : After-smaller-stop) → c.smaller-stop.result ≡ min (c.args.k + length (opens_of c.args.places.now c.args.first c.args.end)) c.args.most
-stop_is c = rw (opens-here _ _ _ _ c.free.ensures _ c.look-free.ensures) at c.smaller-stop.ensures
+stop_is : (c : After-min-stop) → c.min-stop.result ≡ min (c.args.k + length (opens_of c.args.places.now c.args.first c.args.end)) c.args.most
+stop_is c = rw (opens-here _ _ _ _ c.free.ensures _ c.look-free.ensures) at c.min-stop.ensures
 
-up : (c : After-smaller-stop) → c.args.k ≤ c.smaller-stop.result
+up : (c : After-min-stop) → c.args.k ≤ c.min-stop.result
 up c = target_up _ _ _ _ _ _ (stop_is c) c.requires.1
 
-room : (c : After-smaller-stop) → 2 * c.smaller-stop.result ≤ length c.args.lent.now
-room c = omega (arith, c.smaller-stop.ensures, c.requires.2)
+room : (c : After-min-stop) → 2 * c.min-stop.result ≤ length c.args.lent.now
+room c = omega (arith, c.min-stop.ensures, c.requires.2)
 
 pub put_span-below-requires : goal.put_span-below-requires
 put_span-below-requires c = (
   omega arith,
-  record { within = omega (arith, c.requires.0.up, c.requires.0.within); small = c.requires.0.small; fits = fits (goal.at.put_span-below-requires c).After-of-range; room = room (goal.at.put_span-below-requires c).After-smaller-stop },
-  up (goal.at.put_span-below-requires c).After-smaller-stop,
+  record { within = omega (arith, c.requires.0.up, c.requires.0.within); small = c.requires.0.small; fits = fits (goal.at.put_span-below-requires c).After-of-range; room = room (goal.at.put_span-below-requires c).After-min-stop },
+  up (goal.at.put_span-below-requires c).After-min-stop,
 )
 
 pub put_span-above-requires : goal.put_span-above-requires
@@ -41,9 +42,9 @@ put_span-above-requires c =
         within = omega (arith, c.requires.0.within);
         small = c.requires.0.small;
         fits = fits (goal.at.put_span-above-requires c).After-of-range;
-        room = omega (arith, put-long p, room (goal.at.put_span-above-requires c).After-smaller-stop);
+        room = omega (arith, put-long p, room (goal.at.put_span-above-requires c).After-min-stop);
       },
-      omega (arith, put_up _ _ _ _ (up (goal.at.put_span-above-requires c).After-smaller-stop) p, c.smaller-stop.ensures),
+      omega (arith, put_up _ _ _ _ (up (goal.at.put_span-above-requires c).After-min-stop) p, c.min-stop.ensures),
     )
 
 pub put_hits-requires : goal.put_hits-requires
@@ -56,12 +57,12 @@ put_hits-requires c =
         free-fits _ c.free-2.ensures,
         omega arith,
         omega (arith, p.next-is, q.next-is),
-        omega (arith, put-long p, put-long q, room (goal.at.put_hits-requires c).After-smaller-stop, put_up _ _ _ _ (put_up _ _ _ _ (up (goal.at.put_hits-requires c).After-smaller-stop) p) q),
+        omega (arith, put-long p, put-long q, room (goal.at.put_hits-requires c).After-min-stop, put_up _ _ _ _ (put_up _ _ _ _ (up (goal.at.put_hits-requires c).After-min-stop) p) q),
       );
-      k_in_bounds = target-enough _ _ _ _ _ _ (stop_is (goal.at.put_hits-requires c).After-smaller-stop) c.requires.1 _ c.of-range.ensures _ _ _ _ _ p q c.requires.0.up c.requires.0.within _ c.free-2.ensures;
+      k_in_bounds = target-enough _ _ _ _ _ _ (stop_is (goal.at.put_hits-requires c).After-min-stop) c.requires.1 _ c.of-range.ensures _ _ _ _ _ p q c.requires.0.up c.requires.0.within _ c.free-2.ensures;
     }
 
 pub returns : goal.returns
 returns c =
-    target-put _ _ _ _ _ _ (stop_is (goal.at.returns c).After-smaller-stop) c.requires.1 _ c.of-range.ensures _ _ _ _ _ c.put_span-below.ensures c.put_span-above.ensures c.requires.0.up c.requires.0.within _ c.free-2.ensures _
+    target-put _ _ _ _ _ _ (stop_is (goal.at.returns c).After-min-stop) c.requires.1 _ c.of-range.ensures _ _ _ _ _ c.put_span-below.ensures c.put_span-above.ensures c.requires.0.up c.requires.0.within _ c.free-2.ensures _
     c.put_hits.ensures

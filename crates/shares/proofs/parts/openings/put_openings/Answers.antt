@@ -1,14 +1,15 @@
 use native.Mathlib.Omega.{arith}
 use mathlib.Core.Path.{◌≡◌}
-use Prim.Native.Nat.{◌-◌, ◌≤◌, ◌<◌}
+use Prim.Native.Nat.{◌≤◌, ◌<◌}
 use lib.ListN.{length, get_or}
 use Rattle.racks.specs.Job.{racks_of}
 use Rattle.racks.proofs.Jobs.{sound-racks}
 use Rattle.racks.proofs.Passing.{at_first, at_bounds, at_next}
 use Rattle.plans.specs.Plan.{plan}
 use Rattle.plans.proofs.Plans.{plan-few}
+use Rattle.spans.proofs.Found.{free-fits}
 use Rattle.shares.proofs.Shares.{stop-few}
-use Rattle.shares.proofs.Openings.{openings-none, openings-long, stop-up, open-enough, openings-more}
+use Rattle.shares.proofs.Openings.{marked, openings-none, openings-long, stop-up, open-enough, openings-more}
 use Rattle.shares.proofs.parts.openings.put_openings.Goals as goal
 use Rattle.shares.proofs.parts.openings.put_openings.Goals.{In-loop-p}
 
@@ -35,17 +36,19 @@ bounds-stops-p c = rack (goal.at.bounds-stops-p c).In-loop-p
 pub overflow_cast-stop : goal.overflow_cast-stop
 overflow_cast-stop c = omega (arith, few (goal.at.overflow_cast-stop c).In-loop-p, plan-few (racks_of c.args.job) c.args.places.now, c.requires.0.small)
 
-pub put_free-requires : goal.put_free-requires
-put_free-requires c =
+pub put_hits-requires : goal.put_hits-requires
+put_hits-requires c =
     let l = c.loop-p in
     let n = at_bounds c.requires.0 l.invariant.0 (omega arith) in record {
       low_in_bounds = (
         omega (arith, n.up, n.within, c.requires.1.long),
         omega (arith, c.requires.1.long, c.requires.0.small),
+        free-fits _ c.free.ensures,
+        omega arith,
         stop-up _ c.requires.0 _ c.requires.1 _ _ l.invariant.0 (omega arith) _ c.requires.2 _ _ _ l.invariant.1,
-        omega (arith, few (goal.at.put_free-requires c).In-loop-p, openings-long l.invariant.1, c.requires.3),
+        omega (arith, few (goal.at.put_hits-requires c).In-loop-p, openings-long l.invariant.1, c.requires.3),
       );
-      k_in_bounds = open-enough _ c.requires.0 _ c.requires.1 _ _ l.invariant.0 (omega arith) _ c.requires.2 _ _ _ l.invariant.1;
+      k_in_bounds = rw (marked _ _ c.free.ensures _ _) (open-enough _ c.requires.0 _ c.requires.1 _ _ l.invariant.0 (omega arith) _ c.requires.2 _ _ _ l.invariant.1);
     }
 
 pub offset_bounds-job-p : goal.offset_bounds-job-p
@@ -61,7 +64,7 @@ pub loop-p-preserved : goal.loop-p-preserved
 loop-p-preserved c =
     let l = c.loop-p in (
       at_next c.requires.0 l.invariant.0 (omega arith),
-      openings-more _ c.requires.0 _ c.requires.1 _ _ l.invariant.0 (omega arith) _ c.requires.2 _ _ _ l.invariant.1 _ c.put_free.ensures,
+      openings-more _ c.requires.0 _ c.requires.1 _ _ l.invariant.0 (omega arith) _ c.requires.2 _ _ _ l.invariant.1 _ (rw (marked _ _ c.free.ensures _ _) at c.put_hits.ensures),
     )
 
 pub returns : goal.returns

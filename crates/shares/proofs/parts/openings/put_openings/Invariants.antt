@@ -1,4 +1,3 @@
-use Prim.Native.Nat.{◌-◌}
 use Rattle.racks.specs.Job.{racks_of}
 use Rattle.racks.proofs.Passing.{At}
 use Rattle.shares.proofs.Openings.{OpeningsPut}
@@ -6,6 +5,3 @@ use Rattle.shares.proofs.parts.openings.put_openings.Given as goal
 
 abbrev pub invariant-loop-p : goal.invariant-loop-p
 invariant-loop-p l = At l.job l.p l.low × OpeningsPut (racks_of l.job) l.places l.initial.lent l.p l.k l.lent
-
-abbrev pub decreases-loop-p : goal.decreases-loop-p
-decreases-loop-p l = l.job.racks - l.p

@@ -27,5 +27,5 @@ pub returns : goal.returns
 unfolding share_to coming_to
 returns c =
     let k = c.of-range.ensures in
-    c.smaller.ensures
+    c.min.ensures
     ∙ rw (c.count_in-below.ensures, c.count_in-above.ensures, c.count_in-free.ensures, c.free.ensures, k)

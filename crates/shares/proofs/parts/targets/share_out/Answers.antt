@@ -1,6 +1,6 @@
 use native.Mathlib.Omega.{arith}
 use mathlib.Core.Path.{◌≡◌, ◌∙◌}
-use Prim.Native.Nat.{◌+◌, ◌-◌, ◌≤◌, ◌<◌}
+use Prim.Native.Nat.{◌+◌, ◌≤◌, ◌<◌}
 use Rattle.racks.specs.Job.{racks_of}
 use Rattle.racks.proofs.Jobs.{sound-racks}
 use Rattle.racks.proofs.Passing.{at_first, at_bounds, at_next}

@@ -1,4 +1,3 @@
-use Prim.Native.Nat.{◌≤◌, ◌-◌}
 use Rattle.counting.specs.Lists.{join, tabulate}
 use Rattle.texts.specs.Lines.{card_text}
 use Rattle.texts.specs.parts.Writing.{Wrote}
@@ -6,7 +5,4 @@ use Rattle.texts.proofs.parts.lines.put_slots.Given as goal
 
 abbrev pub invariant-loop-g : goal.invariant-loop-g
 invariant-loop-g l =
-    (l.g ≤ l.s) × Wrote (join (tabulate l.g (card_text l.b l.cards))) l.initial.out l.at l.out l.next
-
-abbrev pub decreases-loop-g : goal.decreases-loop-g
-decreases-loop-g l = l.s - l.g
+    Wrote (join (tabulate l.g (card_text l.b l.cards))) l.initial.out l.at l.out l.next
