@@ -2,81 +2,36 @@
 use mathlib.Core.Path.{◌≡◌, refl, sym, ap, ◌∙◌}
 use mathlib.Core.Bool.{Bool, true, false, true≢false}
 use Prim.Native.Nat.{ℕ, zero, suc, ◌+◌, ◌-◌, ◌*◌, ◌/◌, ◌%◌, ◌^◌, ◌≤◌, ◌<◌, min, max}
-use native.Mathlib.Nat.{mod-lt, mod-eq_of_lt, lt_of_le_of_lt, one-mul, mul_comm, div-one, div-eq_of_lt, zero-lt-suc, max-zero, min-zero}
+use native.Mathlib.Nat.{mod-eq_of_lt, lt_of_le_of_lt, one-mul, mul_comm, div-one, div-eq_of_lt}
 use native.Mathlib.Omega.{arith}
-use native.Mathlib.Decide.{dec_lt}
 use lib.Dec.{eqb}
 use lib.Arith.{digits_div, digits_mod}
-use lib.Bits.{bit_and, bit_or, bit_xor, differ, or_step, and_step, xor_step, or_shr, and_shr, xor_shr, shifted_even, or_lt, xor_lt, and_le_l}
-use lib.Pow.{pow_pos, pow-lt, pow-add, shl-shr, shr-shr, ones_split, ones_lt, high}
+use lib.Bits.{bit_and, bit_or, or_lt, xor_lt, and_le_l}
+use lib.Pow.{pow_pos, pow-lt, shr-shr, ones_split, ones_lt, high}
+use mir.Syntax.{w64}
+use native.Mathlib.Decide.{ℕ_discrete}
+use native.Mathlib.Nat.{pow-suc}
+use Rattle.std.specs.Int.{bit_at, bit_not}
+use Rattle.std.proofs.lemmas.Nat.Bits.{bit_at_lowest, bit_at-suc, bit_at_and, bit_at_or, bit_at_xor, bit_at-pow_same, bit_at-pow_other, bit_at_clear_same, bit_at_clear_other}
 use Rattle.counting.specs.Tests.{bit}
 use Rattle.bits.specs.parts.Bits.{bit_on, ALL, turned_on, turned_off}
 
--- the lowest digit of `or` is the greater of the two lowest digits
-or-low : (a c : ℕ) → bit_or a c % 2 ≡ max (a % 2) (c % 2)
-or-low a c = ap (λ (x : ℕ). x % 2) (or_step a c) ∙ digits_mod (bit_or (a / 2) (c / 2)) (omega (arith, mod-lt a (zero-lt-suc 1), mod-lt c (zero-lt-suc 1)))
+-- the digits of a word, with bit b turned on
+on-digit : (word b k : ℕ) → bit_at (turned_on word b) k ≡ max (bit_at word k) (bit_at (2 ^ b) k)
+unfolding turned_on
+on-digit word b k = bit_at_or word (2 ^ b) k
 
--- of `and` it is the smaller
-and_low : (a c : ℕ) → bit_and a c % 2 ≡ min (a % 2) (c % 2)
-and_low a c = ap (λ (x : ℕ). x % 2) (and_step a c) ∙ digits_mod (bit_and (a / 2) (c / 2)) (omega (arith, mod-lt a (zero-lt-suc 1), mod-lt c (zero-lt-suc 1)))
+-- and turned off: no digit that it shares with the bit
+off-digit : (word b k : ℕ) → bit_at (turned_off word b) k ≡ min (bit_at word k) (1 - bit_at (2 ^ b) k)
+unfolding turned_off
+off-digit word b k = omega (arith, bit_at_xor word (bit_and word (2 ^ b)) k, bit_at_and word (2 ^ b) k)
 
--- two digits differ in a digit
-differ_lt : (x y : ℕ) → x < 2 → y < 2 → differ x y < 2
-differ_lt zero y h l = l
-differ_lt (suc x) zero h l = h
-differ_lt (suc zero) (suc zero) h l = omega arith
-differ_lt (suc zero) (suc (suc y)) h l = absurd (omega arith)
-differ_lt (suc (suc x)) (suc y) h l = absurd (omega arith)
-
--- and of `xor` whether they differ
-xor_low : (a c : ℕ) → bit_xor a c % 2 ≡ differ (a % 2) (c % 2)
-xor_low a c =
-    ap (λ (x : ℕ). x % 2) (xor_step a c)
-    ∙ digits_mod (bit_xor (a / 2) (c / 2)) (differ_lt (a % 2) (c % 2) (mod-lt a (zero-lt-suc 1)) (mod-lt c (zero-lt-suc 1)))
-
--- digit k of either of two numbers
-or-digit : (a c k : ℕ) → bit_or a c / 2 ^ k % 2 ≡ max (a / 2 ^ k % 2) (c / 2 ^ k % 2)
-or-digit a c k = ap (λ (x : ℕ). x % 2) (or_shr a c k) ∙ or-low (a / 2 ^ k) (c / 2 ^ k)
-
--- digit k of a word with those turned off that it shares with another
-off-digit : (a c k : ℕ) → bit_xor a (bit_and a c) / 2 ^ k % 2 ≡ differ (a / 2 ^ k % 2) (min (a / 2 ^ k % 2) (c / 2 ^ k % 2))
-off-digit a c k =
-    ap (λ (x : ℕ). x % 2) (xor_shr a (bit_and a c) k) ∙ xor_low (a / 2 ^ k) (bit_and a c / 2 ^ k)
-    ∙ ap (differ (a / 2 ^ k % 2)) (ap (λ (x : ℕ). x % 2) (and_shr a c k) ∙ and_low (a / 2 ^ k) (c / 2 ^ k))
-
--- a power of two has its own digit
-power-here : (b : ℕ) → 2 ^ b / 2 ^ b % 2 ≡ 1
-power-here b = ap (λ (x : ℕ). x / 2 ^ b % 2) (sym (one-mul (2 ^ b))) ∙ ap (λ (x : ℕ). x % 2) (shl-shr 1 b)
-
--- and none below it
-power_below : (b k : ℕ) → k < b → 2 ^ b / 2 ^ k % 2 ≡ 0
-power_below b k h =
-    let d = b - k - 1 in
-    let e : b ≡ suc d + k = omega arith in
-    ap (λ (x : ℕ). 2 ^ x / 2 ^ k % 2) e
-    ∙ ap (λ (x : ℕ). x / 2 ^ k % 2) (pow-add 2 (suc d) k)
-    ∙ ap (λ (x : ℕ). x % 2) (shl-shr (2 ^ suc d) k ∙ sym (one-mul (2 ^ suc d)))
-    ∙ shifted_even 1 d
-
--- nor any other
-power-other : (b k : ℕ) → (k ≡ b → ⊥) → 2 ^ b / 2 ^ k % 2 ≡ 0
-power-other b k f = elim (dec_lt k b) [
-  | yes l ↦ power_below b k l
-  | no g ↦ ap (λ (x : ℕ). x % 2) (div-eq_of_lt (pow-lt {i = b} {j = k} (omega arith)))
-]
-
--- a digit beside a digit that is on, or off
-max-one : (x : ℕ) → x < 2 → max x 1 ≡ 1
-max-one x h = omega arith
-
-differ-one : (x : ℕ) → x < 2 → differ x (min x 1) ≡ 0
-differ-one zero h = refl
-differ-one (suc zero) h = refl
-differ-one (suc (suc x)) h = absurd (omega arith)
-
-differ-none : (x : ℕ) → differ x 0 ≡ x
-differ-none zero = refl
-differ-none (suc x) = refl
+-- numbers of j digits with the same digits are the same
+digits_same : (j a c : ℕ) → a < 2 ^ j → c < 2 ^ j → ((k : ℕ) → k < j → bit_at a k ≡ bit_at c k) → a ≡ c
+digits_same zero a c l m f = omega arith
+digits_same (suc j) a c l m f =
+    let half = digits_same j (a / 2) (c / 2) (omega (arith, pow-suc 2 j)) (omega (arith, pow-suc 2 j)) (λ k h. sym (bit_at-suc a k) ∙ f (suc k) (omega arith) ∙ bit_at-suc c k) in
+    omega (arith, half, f 0 (omega arith), bit_at_lowest a, bit_at_lowest c)
 
 -- 0 has no bit on
 pub bit-none : (b : ℕ) → bit_on 0 b ≡ false
@@ -113,31 +68,23 @@ doubled-up word one b h =
 
 -- a bit turned on is on
 pub turned-on-here : (word b : ℕ) → bit_on (turned_on word b) b ≡ true
-unfolding bit_on turned_on
-turned-on-here word b =
-    ap (λ (x : ℕ). eqb x 1) (or-digit word (2 ^ b) b ∙ ap (max (word / 2 ^ b % 2)) (power-here b) ∙ max-one (word / 2 ^ b % 2) (mod-lt (word / 2 ^ b) (zero-lt-suc 1)))
+unfolding bit_on
+turned-on-here word b = let e : bit_at (turned_on word b) b ≡ 1 = omega (arith, on-digit word b b, bit_at-pow_same b) in ap (λ (x : ℕ). eqb x 1) e
 
 -- every other bit is as it was
 pub turned-on-other : (word b k : ℕ) → (k ≡ b → ⊥) → bit_on (turned_on word b) k ≡ bit_on word k
-unfolding bit_on turned_on
-turned-on-other word b k f =
-    ap (λ (x : ℕ). eqb x 1) (or-digit word (2 ^ b) k ∙ ap (max (word / 2 ^ k % 2)) (power-other b k f) ∙ max-zero (word / 2 ^ k % 2))
+unfolding bit_on
+turned-on-other word b k f = ap (λ (x : ℕ). eqb x 1) (omega (arith, on-digit word b k, bit_at-pow_other b k f))
 
 -- a bit turned off is off
 pub turned-off-here : (word b : ℕ) → bit_on (turned_off word b) b ≡ false
-unfolding bit_on turned_off
-turned-off-here word b =
-    ap (λ (x : ℕ). eqb x 1)
-    (off-digit word (2 ^ b) b ∙ ap (λ (x : ℕ). differ (word / 2 ^ b % 2) (min (word / 2 ^ b % 2) x)) (power-here b)
-    ∙ differ-one (word / 2 ^ b % 2) (mod-lt (word / 2 ^ b) (zero-lt-suc 1)))
+unfolding bit_on
+turned-off-here word b = let e : bit_at (turned_off word b) b ≡ 0 = omega (arith, off-digit word b b, bit_at-pow_same b) in ap (λ (x : ℕ). eqb x 1) e
 
 -- every other bit is as it was
 pub turned-off-other : (word b k : ℕ) → (k ≡ b → ⊥) → bit_on (turned_off word b) k ≡ bit_on word k
-unfolding bit_on turned_off
-turned-off-other word b k f =
-    ap (λ (x : ℕ). eqb x 1)
-    (off-digit word (2 ^ b) k ∙ ap (λ (x : ℕ). differ (word / 2 ^ k % 2) (min (word / 2 ^ k % 2) x)) (power-other b k f)
-    ∙ ap (differ (word / 2 ^ k % 2)) (min-zero (word / 2 ^ k % 2)) ∙ differ-none (word / 2 ^ k % 2))
+unfolding bit_on
+turned-off-other word b k f = ap (λ (x : ℕ). eqb x 1) (omega (arith, off-digit word b k, bit_at-pow_other b k f))
 
 -- a word in which a bit is on is not 0
 pub not_none : {word : ℕ} (b : ℕ) → bit_on word b ≡ true → word ≡ 0 → ⊥
@@ -166,6 +113,10 @@ pub turn-on_code : (j word b : ℕ) → b < j → bit_or word (1 * 2 ^ b % 2 ^ j
 unfolding turned_on
 turn-on_code j word b l = ap (bit_or word) (power_code j b l)
 
-pub turn-off_code : (j word b : ℕ) → b < j → bit_xor word (bit_and word (1 * 2 ^ b % 2 ^ j)) ≡ turned_off word b
-unfolding turned_off
-turn-off_code j word b l = ap (λ (x : ℕ). bit_xor word (bit_and word x)) (power_code j b l)
+-- the word without the bit, as code computes it, has the same digits
+pub turn-off_code : (word b : ℕ) → word < 2 ^ 64 → b < 64 → bit_and word (bit_not w64 (1 * 2 ^ b % 2 ^ 64)) ≡ turned_off word b
+turn-off_code word b fits l =
+    digits_same 64 _ _ (lt_of_le_of_lt (and_le_l word (bit_not w64 (1 * 2 ^ b % 2 ^ 64))) fits) (turned-off_lt 64 word b fits) (λ k h. elim (ℕ_discrete k b) [
+      | yes e ↦ rw e (bit_at_clear_same w64 word b l ∙ omega (arith, off-digit word b b, bit_at-pow_same b))
+      | no f ↦ bit_at_clear_other w64 word b l k h f ∙ omega (arith, off-digit word b k, bit_at-pow_other b k f)
+    ])

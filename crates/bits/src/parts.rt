@@ -27,7 +27,7 @@ pub fn next_on(word: u64, s: usize) -> usize
     if rest == 0 {
         return 64;
     }
-    s + u64::trailing_zeros(rest) as usize
+    s + rest.trailing_zeros() as usize
 }
 
 // A word with bit b on.
@@ -43,7 +43,7 @@ pub fn turn_off(word: u64, b: usize) -> u64
     requires { b < 64 }
     ensures { result ≡ turned_off word b }
 {
-    word ^ (word & (1 << b))
+    word & !(1 << b)
 }
 
 // Number g into the set.

@@ -1,8 +1,11 @@
 -- Each case of the copy list's call. Assumes nothing.
 use mathlib.Core.Path.{◌≡◌, refl, sym, ap, ◌∙◌}
 use mathlib.Core.Bool.{true, false, not}
+use mathlib.Core.Logic.{inl, inr}
+use lib.Dec.{leb}
+use Rattle.std.proofs.lemmas.Bool.Decides.{leb_tells}
 use mathlib.Core.List.{List, [], ◌∷◌}
-use Prim.Native.Nat.{ℕ, ◌*◌, ◌≤◌, ◌<◌}
+use Prim.Native.Nat.{ℕ, ◌*◌, ◌≤◌}
 use native.Mathlib.Omega.{arith}
 use native.Mathlib.Nat.{zero-add}
 use lib.ListN.{length}
@@ -36,14 +39,12 @@ unfolding fits
 fits-long {places} ok room l = ap not (sym (le-ltb room (2 * length (copy_list places)) (omega (arith, list_most ok))))
 
 -- the copies, counted: they fit, or not
-module _ (places : List ℕ) (room count : ℕ) (size : count ≡ length (copy_list places)) where
-  pub fits_not : room < 2 * count → false ≡ fits room places
-  unfolding fits
-  fits_not l = ap not (sym (lt-ltb room (2 * length (copy_list places)) (omega arith)))
-
-  pub fits_just : 2 * count ≤ room → true ≡ fits room places
-  unfolding fits
-  fits_just l = ap not (sym (le-ltb room (2 * length (copy_list places)) (omega arith)))
+pub fits-count : (places : List ℕ) (room count : ℕ) → count ≡ length (copy_list places) → leb (2 * count) room ≡ fits room places
+unfolding fits
+fits-count places room count size = elim (leb_tells (2 * count) room) [
+  | inl e ↦ e.0 ∙ ap not (sym (le-ltb room (2 * length (copy_list places)) (omega (arith, e.1))))
+  | inr e ↦ e.0 ∙ ap not (sym (lt-ltb room (2 * length (copy_list places)) (omega (arith, e.1))))
+]
 
 -- the table is accepted and nothing is away
 module _ (places lent : List ℕ) where

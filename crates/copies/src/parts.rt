@@ -1,7 +1,6 @@
 // What the copy list puts together, and the shuffle after it: the cards that are away, the list in a lent one.
 ghost use Rattle.std.specs.Prelude.{◌≡◌, ◌*◌, ◌≤◌, ◌<◌, length};
 ghost use Rattle.answers.specs.Answers.{plus_copies, listed_of};
-ghost use Rattle.counting.specs.Tests.{◌or◌};
 ghost use Rattle.factors.specs.parts.Chains.{Chained};
 ghost use Rattle.factors.specs.parts.Walks.{COUNTED, LISTED, SomeMarked, Unmarked};
 ghost use Rattle.racks.specs.Job.{Fit};
@@ -25,27 +24,14 @@ pub fn is_away(racking: &[u8; Job::MAX_SLOTS], places: &[u16], g: usize) -> bool
     racking[g] != racking[to]
 }
 
-// One of two tests.
-fn either(a: bool, b: bool) -> bool
-    ensures { result ≡ (a or b) }
-{
-    if a {
-        return true;
-    }
-    b
-}
-
 // Whether some card is away.
 pub fn some_away(racking: &[u8; Job::MAX_SLOTS], places: &[u16]) -> bool
     requires { Chained places.now }
     ensures { result ≡ some_away_by racking.now places.now }
 {
     let mut found = false;
-    let mut g: usize = 0;
-    while g < places.len() {
-        let away = is_away(racking, places, g);
-        found = either(found, away);
-        g = g + 1;
+    for g in 0..places.len() {
+        found |= is_away(racking, places, g);
     }
     found
 }

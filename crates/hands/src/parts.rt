@@ -21,7 +21,7 @@ pub fn take_card(cards: &[u8], hand: &mut [u8; Job::MAX_BYTES], b: usize, from: 
     ensures long { length hand.new ≡ BYTES }
 {
     let f = from * b;
-    racks::parts::put_bytes(hand, 0, &cards[f..f + b]);
+    hand[..b].copy_from_slice(&cards[f..f + b]);
 }
 
 // The hand goes to slot `to`.
@@ -29,7 +29,7 @@ pub fn lay_card(cards: &mut [u8], hand: &[u8], b: usize, to: usize)
     requires { (to * b + b ≤ length cards.old) × (b ≤ BYTES) × (length hand.now ≡ BYTES) }
     ensures { cards.new ≡ put_block b to (take b hand.now) cards.old }
 {
-    racks::parts::put_bytes(cards, to * b, &hand[..b]);
+    racks::parts::put(cards, to * b, &hand[..b]);
 }
 
 // The cards of the chain of slot x and the `left` slots after it, each to the next slot, the last card first; each copy is added to the tally
@@ -49,7 +49,7 @@ pub fn bring(
     if left == 0 {
         return tally;
     }
-    let to = factors::parts::wide(places[x]);
+    let to = places[x] as usize;
     let made = bring(places, cards, b, to, left - 1, tally);
     carrying::parts::copy_card(cards, b, x, to);
     made.add_copy()
@@ -93,7 +93,7 @@ pub fn bring_walk(
     if end == Job::FREE {
         return bring_chain(&places, cards, b, head, left, tally);
     }
-    take_card(cards, hand, b, factors::parts::wide(end));
+    take_card(cards, hand, b, end as usize);
     let held = tally.add_copy();
     let shifted = bring_chain(&places, cards, b, head, left, held);
     lay_card(cards, hand, b, head);
@@ -135,10 +135,8 @@ pub fn bring_factors(
     ensures { AllBrought b places.now cards.old hand.old tally result cards.new }
 {
     let mut sum = tally;
-    let mut k: usize = 0;
-    while k < places.len() {
+    for k in 0..places.len() {
         sum = bring_slot(places, sources, seen, cards, hand, b, k, sum);
-        k = k + 1;
     }
     sum
 }

@@ -1,14 +1,16 @@
 -- The slots settled: the new table, the free slots listed, and zeroed. Assumes nothing.
 use mathlib.Core.Path.{◌≡◌, refl, sym, ap, ◌∙◌}
 use mathlib.Core.Logic.{◌≢◌}
-use mathlib.Core.Bool.{true, false}
+use mathlib.Core.Bool.{Bool, true, false}
 use mathlib.Core.List.{List}
 use Prim.Native.Nat.{ℕ, ◌+◌, ◌*◌, ◌≤◌, ◌<◌}
 use native.Mathlib.Omega.{arith}
 use native.Mathlib.Decide.{ℕ_discrete}
-use lib.ListN.{length, get_or, length-set}
-use lib.Seq.{get_or-set_same, get_or-set_other}
+use lib.ListN.{length, get_or, take, length-set}
+use lib.Seq.{get_or-set_same, get_or-set_other, get_or-take, length-take-le}
 use borrow.Author.Tests.{eq-eqb, ne_eqb}
+use mir.Val.{bool_byte}
+use Rattle.counting.specs.Tests.{bit}
 use Rattle.counting.specs.Lists.{tabulate, join}
 use Rattle.counting.proofs.Tests.{off}
 use Rattle.counting.proofs.Some.{some-hit, some-found}
@@ -25,6 +27,11 @@ use Rattle.shuffle.specs.Shuffle.{is_named, last_entry, last_card}
 use Rattle.shuffler.specs.parts.Settled.{entry_by, SlotSettled, FreeListed, TableSettled, AllBelow, Zeroed}
 use Rattle.shuffle.specs.parts.Shuffled.{AllSettled}
 use Rattle.shuffle.proofs.Settled.{last-named, last-free, card-named, card-free, length_last, length-slots, block-slots}
+
+-- a test as a number, as the code has it
+pub bit-is : (test : Bool) → bool_byte test ≡ bit test
+bit-is true = refl
+bit-is false = refl
 
 -- no card is bound for a slot exactly where no entry names it
 module _ {places : List ℕ} (ok : Chained places) (d : ℕ) where
@@ -140,6 +147,13 @@ settled-all places d places' frees n e t = record {
   listed = rw e at t.listed;
   size = t.size;
 }
+
+-- a slot that is listed among the first n, as the part of the list has it
+pub listed-part : (S n : ℕ) (frees : List ℕ) → AllBelow S n frees → n ≤ length frees → (i : ℕ) → i < length (take n frees) → (get_or (take n frees) i 0 ≡ get_or frees i 0) × (get_or (take n frees) i 0 < S)
+listed-part S n frees below fits i l =
+    let m : i < n = omega (arith, length-take-le n frees fits) in
+    let e = get_or-take n frees i 0 m in
+    (e, rw e (below i m))
 
 -- no slot is zeroed yet
 pub zeroed-none : (b : ℕ) (frees cards : List ℕ) → Zeroed b frees 0 cards cards

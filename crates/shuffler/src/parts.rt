@@ -32,7 +32,7 @@ pub fn settle_slot(places: &mut [u16], frees: &mut [u16], d: usize, n: usize, so
 {
     places[d] = entry_by(source, d);
     frees[n] = d as u16;
-    n + tables::parts::one_if(source == Job::FREE) as usize
+    n + (source == Job::FREE) as usize
 }
 
 // The new table, and the slots that are free in it from the front of the sources; how many they are. No more slots are listed than sources were
@@ -42,11 +42,9 @@ pub fn settle_table(sources: &mut [u16], places: &mut [u16]) -> usize
     ensures { TableSettled places.old places.new sources.new result }
 {
     let mut n: usize = 0;
-    let mut d: usize = 0;
-    while d < places.len() {
+    for d in 0..places.len() {
         let source = sources[d];
         n = settle_slot(places, sources, d, n, source);
-        d = d + 1;
     }
     n
 }
@@ -56,11 +54,8 @@ pub fn zero_slots(frees: &[u16], n: usize, cards: &mut [u8], b: usize, slots: us
     requires { AllBelow slots n frees.now × (n ≤ length frees.now) × (length cards.old ≡ slots * b) }
     ensures { Zeroed b frees.now n cards.old cards.new }
 {
-    let mut i: usize = 0;
-    while i < n {
-        let slot = factors::parts::wide(frees[i]);
-        carrying::parts::blank_card(cards, b, slot);
-        i = i + 1;
+    for slot in &frees[..n] {
+        carrying::parts::blank_card(cards, b, *slot as usize);
     }
 }
 

@@ -49,10 +49,8 @@ pub fn count_factors(places: &[u16], sources: &[u16], seen: &mut [u8; Job::MAX_S
     ensures marks { Unmarked places.now LISTED seen.new }
 {
     let mut at: usize = 0;
-    let mut k: usize = 0;
-    while k < places.len() {
+    for k in 0..places.len() {
         at = count_slot(places, sources, seen, k, at);
-        k = k + 1;
     }
     at
 }
@@ -72,11 +70,7 @@ pub fn has_room(
     if 3 * places.len() <= room {
         return true;
     }
-    let count = count_factors(places, sources, seen);
-    if room < 2 * count {
-        return false;
-    }
-    true
+    2 * count_factors(places, sources, seen) <= room
 }
 
 // Copy number `at` of the list: from, and then to.
@@ -99,7 +93,7 @@ pub fn write_shift(places: &&[u16], list: &mut [u16], x: usize, left: usize, tal
         return tally;
     }
     let y = places[x];
-    let made = write_shift(places, list, factors::parts::wide(y), left - 1, tally);
+    let made = write_shift(places, list, y as usize, left - 1, tally);
     let at = made.copies;
     put_copy(list, at, x as u16, y);
     made.add_copy()
@@ -175,10 +169,8 @@ pub fn write_factors(
     ensures { AllWritten places.now list.old seen.old tally result list.new seen.new }
 {
     let mut sum = tally;
-    let mut k: usize = 0;
-    while k < places.len() {
+    for k in 0..places.len() {
         sum = write_slot(places, sources, seen, list, k, sum);
-        k = k + 1;
     }
     sum
 }

@@ -7,7 +7,6 @@ ghost use Rattle.factors.specs.parts.Chains.{Chained};
 ghost use Rattle.factors.specs.parts.Walks as defined;
 ghost use Rattle.factors.specs.parts.Walks.{NoSources, Sources, put_source, stepped, Inside, hand_end, Passed, MarkedOn, MarkedBack, Walked};
 
-use crate::parts;
 use racks::Job;
 
 // The mark of a slot whose copies are counted or made: no rack has this number, so that the racking serves as marks, uncleared.
@@ -50,11 +49,7 @@ pub fn clear_sources(sources: &mut [u16], n: usize)
     requires { (n ≤ SLOTS) × (SOURCES ≤ length sources.old) }
     ensures { NoSources n sources.new }
 {
-    let mut d: usize = 0;
-    while d < n {
-        sources[d] = Job::FREE;
-        d = d + 1;
-    }
+    sources[..n].fill(Job::FREE);
 }
 
 // The inverse of the table, for each slot the slot whose card is bound for it, in one pass over a list as it is made or cleared.
@@ -62,10 +57,8 @@ pub fn fill_sources(places: &[u16], sources: &mut [u16])
     requires { Chained places.now × NoSources (length places.now) sources.old }
     ensures { Sources places.now sources.new }
 {
-    let mut g: usize = 0;
-    while g < places.len() {
-        put_source(sources, places[g], g);
-        g = g + 1;
+    for (g, x) in places.iter().enumerate() {
+        put_source(sources, *x, g);
     }
 }
 
@@ -85,18 +78,10 @@ pub fn mark_along(table: &[u16], seen: &mut [u8; Job::MAX_SLOTS], mark: u8, h: u
     ensures { Passed table.now mark h seen.old result.head result.left result.end seen.new }
 {
     let mut x = h;
-    let mut n: usize = 0;
-    while n < table.len() {
+    for n in 0..table.len() {
         let y = table[x];
-        if y == Job::FREE {
-            return Walk {
-                head: x,
-                left: n,
-                end: y,
-            };
-        }
-        let to = parts::wide(y);
-        if to == h {
+        let to = y as usize;
+        if y == Job::FREE || to == h {
             return Walk {
                 head: x,
                 left: n,
@@ -105,11 +90,10 @@ pub fn mark_along(table: &[u16], seen: &mut [u8; Job::MAX_SLOTS], mark: u8, h: u
         }
         seen[to] = mark;
         x = to;
-        n = n + 1;
     }
     Walk {
         head: x,
-        left: n,
+        left: table.len(),
         end: Job::FREE,
     }
 }
@@ -122,18 +106,10 @@ pub fn mark_on(places: &[u16], seen: &mut [u8; Job::MAX_SLOTS], mark: u8, h: usi
     seen[h] = mark;
     let w = mark_along(places, seen, mark, h);
     if w.end == Job::FREE {
-        return Walk {
-            head: h,
-            left: w.left,
-            end: Job::FREE,
-        };
+        return Walk { head: h, ..w };
     }
     let end = hand_end(w.head as u16, w.left);
-    Walk {
-        head: h,
-        left: w.left,
-        end,
-    }
+    Walk { head: h, end, ..w }
 }
 
 // Marks the slots on the way back from slot k: on, by the inverse. What is stored behind its slots is no entry, so that is not lent.
@@ -180,10 +156,8 @@ pub fn slot_after(places: &&[u16], x: usize, n: usize) -> usize
     ensures { result ≡ stepped (dest places.now.now) n x }
 {
     let mut y = x;
-    let mut k: usize = 0;
-    while k < n {
-        y = parts::wide(places[y]);
-        k = k + 1;
+    for _k in 0..n {
+        y = places[y] as usize;
     }
     y
 }

@@ -1,12 +1,7 @@
 use mathlib.Core.Path.{◌≡◌}
-use Prim.Native.Nat.{◌≤◌, ◌-◌}
-use lib.ListN.{length}
 use Rattle.counting.specs.Count.{some}
 use Rattle.tables.specs.parts.Tables.{away_by}
 use Rattle.copies.proofs.parts.some_away.Given as goal
 
 abbrev pub invariant-loop-g : goal.invariant-loop-g
-invariant-loop-g l = (l.g ≤ length l.places) × (l.found ≡ some l.g (away_by l.racking l.places))
-
-abbrev pub decreases-loop-g : goal.decreases-loop-g
-decreases-loop-g l = length l.places - l.g
+invariant-loop-g l = l.found ≡ some l.g (away_by l.racking l.places)

@@ -1,4 +1,5 @@
 use Rattle.std.proofs.Common.{arith}
+use mathlib.Core.Path.{refl}
 use Rattle.factors.proofs.Walked.{inside-here, inside-next}
 use Rattle.hands.proofs.Copying.{slid-none, slid-more, slid-within}
 use Rattle.hands.proofs.parts.+bring.Goals as goal
@@ -14,16 +15,16 @@ bounds-places-x t c = inside-here _ _ _ c.requires.0
 
 pub bring-made-requires : goal.bring-made-requires
 bring-made-requires t c =
-    let p = c.requires in (omega arith, (inside-next _ _ _ _ p.0 c.wide-to.ensures (omega arith), p.1, p.2, p.3, omega arith))
+    let p = c.requires in (omega arith, (inside-next _ _ _ _ p.0 refl (omega arith), p.1, p.2, p.3, omega arith))
 
 pub copy_card-requires : goal.copy_card-requires
 copy_card-requires t c =
     let p = c.requires in
     let w = c.bring-made.ensures.cards in
     let from = slid-within _ _ _ _ _ _ w p.3 (inside-here _ _ _ p.0) in
-    let to = slid-within _ _ _ _ _ _ w p.3 (inside-here _ _ _ (inside-next _ _ _ _ p.0 c.wide-to.ensures (omega arith))) in
+    let to = slid-within _ _ _ _ _ _ w p.3 (inside-here _ _ _ (inside-next _ _ _ _ p.0 refl (omega arith))) in
     (omega (arith, from, to), omega (arith, from, to))
 
 pub returns-clause-cards : goal.returns-clause-cards
 returns-clause-cards t c =
-    slid-more _ _ _ _ _ _ _ _ c.requires.0 c.wide-to.ensures (omega arith) c.bring-made.ensures.cards c.copy_card.ensures
+    slid-more _ _ _ _ _ _ _ _ c.requires.0 refl (omega arith) c.bring-made.ensures.cards c.copy_card.ensures

@@ -2,6 +2,7 @@ use Rattle.hands.proofs.Copying.{brought-shift, brought-hand, slid-within}
 use Rattle.copies.proofs.Tallied.{plus-count}
 use Rattle.factors.proofs.Walked.{inside-here, count-shift, count-hand}
 use Rattle.moves.proofs.Blocks.{within}
+use mathlib.Core.Path.{refl}
 use lib.ListN.{length}
 use native.Mathlib.Omega.{arith}
 use Rattle.hands.proofs.parts.bring_walk.Goals as goal
@@ -17,7 +18,7 @@ returns-then-end-eq-FREE c =
 
 pub take_card-requires : goal.take_card-requires
 take_card-requires c =
-    (within c.args.b (length c.args.places.now) c.wide.result c.args.cards.now c.requires.5 (rw c.wide.ensures (c.requires.2 c.if-end-eq-FREE.false)), c.requires.4, c.requires.6)
+    (within c.args.b (length c.args.places.now) _ c.args.cards.now c.requires.5 (c.requires.2 c.if-end-eq-FREE.false), c.requires.4, c.requires.6)
 
 pub bring_chain-shifted-requires : goal.bring_chain-shifted-requires
 bring_chain-shifted-requires c =
@@ -37,4 +38,4 @@ returns c =
     let w = c.bring_chain-shifted.ensures in
     let t = c.take_card.ensures in
     brought-hand c.args.b c.args.places.now c.args.head c.args.left c.args.end c.requires.0 c.requires.1 c.args.cards.now c.args.hand.now c.requires.6 q (c.requires.2 q) c.args.tally _ _ _ _ _ _ _
-    c.add_copy-held.ensures w.counts c.add_copy.ensures c.wide.ensures t.card t.long w.cards c.lay_card.ensures
+    c.add_copy-held.ensures w.counts c.add_copy.ensures refl t.card t.long w.cards c.lay_card.ensures

@@ -1,17 +1,11 @@
-use native.Mathlib.Omega.{arith}
-use mathlib.Core.Path.{ap, ◌∙◌}
-use lib.ListN.{length, take}
-use lib.Seq.{sets, length-sets}
-use Rattle.moves.specs.Blocks.{block}
 use Rattle.moves.proofs.Blocks.{block-part, block-long}
-use Rattle.counting.proofs.Stores.{take-front}
+use native.Mathlib.Omega.{arith}
+use mathlib.Core.Path.{◌∙◌}
+use Rattle.hands.proofs.ByteLoops.{front_is}
 use Rattle.hands.proofs.parts.take_card.Goals as goal
 
 pub returns : goal.returns
 returns c =
-    let e = c.put_bytes.ensures ∙ ap (sets c.args.hand.now 0) (block-part c.args.b c.args.from c.args.cards.now) in
-    let long = block-long c.args.b c.args.from c.args.cards.now c.requires.0 in
-    record {
-      card = ap (take c.args.b) e ∙ take-front c.args.hand.now _ c.args.b long (omega arith);
-      long = ap length e ∙ length-sets c.args.hand.now 0 (block c.args.b c.args.from c.args.cards.now) ∙ c.requires.2;
-    }
+    let a = c.args in
+    let f = front_is a.b a.hand.now _ _ (c.copy_from_slice.ensures.after ∙ block-part a.b a.from a.cards.now) (block-long a.b a.from a.cards.now c.requires.0) (omega (arith, c.requires.1, c.requires.2)) in
+    record { card = f.0; long = f.1 ∙ c.requires.2 }

@@ -1,4 +1,5 @@
 use Rattle.std.proofs.Common.{arith}
+use mathlib.Core.Path.{refl}
 use Rattle.factors.proofs.Walked.{inside-here, inside-next}
 use Rattle.copies.proofs.Tallied.{plus-count}
 use Rattle.copies.proofs.Writing.{shift_none, shift-more}
@@ -15,7 +16,7 @@ bounds-places-x t c = inside-here _ _ _ c.requires.0
 
 pub write_shift-made-requires : goal.write_shift-made-requires
 write_shift-made-requires t c =
-    let p = c.requires in (omega arith, (inside-next _ _ _ _ p.0 c.wide.ensures (omega arith), p.1, omega arith, omega arith))
+    let p = c.requires in (omega arith, (inside-next _ _ _ _ p.0 refl (omega arith), p.1, omega arith, omega arith))
 
 pub overflow_cast-x : goal.overflow_cast-x
 overflow_cast-x t c = omega (arith, inside-here _ _ _ c.requires.0, c.requires.1)
@@ -23,4 +24,4 @@ overflow_cast-x t c = omega (arith, inside-here _ _ _ c.requires.0, c.requires.1
 pub returns-clause-copies : goal.returns-clause-copies
 returns-clause-copies t c =
     let w = c.write_shift-made.ensures in
-    shift-more _ _ _ _ _ _ _ _ _ c.requires.0 c.wide.ensures (omega arith) (plus-count _ _ _ w.counts) w.copies c.put_copy.ensures
+    shift-more _ _ _ _ _ _ _ _ _ c.requires.0 refl (omega arith) (plus-count _ _ _ w.counts) w.copies c.put_copy.ensures

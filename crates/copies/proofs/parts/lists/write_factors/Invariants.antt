@@ -2,11 +2,7 @@ use Rattle.copies.proofs.Progress.{Listing}
 use Rattle.factors.specs.parts.Walks.{LISTED}
 use mathlib.Core.Path.{◌≡◌}
 use lib.ListN.{length}
-use Prim.Native.Nat.{◌≤◌, ◌-◌}
 use Rattle.copies.proofs.parts.lists.write_factors.Given as goal
 
 abbrev pub invariant-loop-k : goal.invariant-loop-k
-invariant-loop-k l = (l.k ≤ length l.places) × (length l.list ≡ length l.initial.list) × Listing l.places LISTED l.k l.initial.seen l.seen l.initial.list l.list l.initial.sum l.sum
-
-abbrev pub decreases-loop-k : goal.decreases-loop-k
-decreases-loop-k l = length l.places - l.k
+invariant-loop-k l = (length l.list ≡ length l.initial.list) × Listing l.places LISTED l.k l.initial.seen l.seen l.initial.list l.list l.initial.sum l.sum

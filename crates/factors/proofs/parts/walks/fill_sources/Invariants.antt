@@ -1,11 +1,7 @@
 use mathlib.Core.Path.{◌≡◌}
-use Prim.Native.Nat.{◌≤◌, ◌-◌}
 use lib.ListN.{length}
 use Rattle.factors.proofs.Sourced.{SourcesTo}
 use Rattle.factors.proofs.parts.walks.fill_sources.Given as goal
 
 abbrev pub invariant-loop-g : goal.invariant-loop-g
-invariant-loop-g l = (l.g ≤ length l.places) × (length l.sources ≡ length l.initial.sources) × SourcesTo l.places l.g l.sources
-
-abbrev pub decreases-loop-g : goal.decreases-loop-g
-decreases-loop-g l = length l.places - l.g
+invariant-loop-g l = (length l.sources ≡ length l.initial.sources) × SourcesTo l.places l.g l.sources

@@ -7,7 +7,7 @@ use Rattle.factors.proofs.parts.walks.mark_on.Goals as goal
 pub returns-then-w : goal.returns-then-w
 returns-then-w c =
     let p = c.requires in
-    on-free p.0 _ _ p.1 _ _ p.2 _ _ _ c.mark_along-w.ensures c.if-w.true
+    rw c.if-w.true (on-free p.0 _ _ p.1 _ _ p.2 _ _ _ c.mark_along-w.ensures c.if-w.true)
 
 pub overflow_cast-w : goal.overflow_cast-w
 overflow_cast-w c =

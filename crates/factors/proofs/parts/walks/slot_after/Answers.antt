@@ -1,4 +1,4 @@
-use Prim.Native.Nat.{◌-◌}
+use mathlib.Core.Path.{refl}
 use native.Mathlib.Omega.{arith}
 use Rattle.factors.proofs.Walked.{inside-here}
 use Rattle.factors.proofs.Stretches.{stepping_begin, stepping-more, stepping-end}
@@ -14,7 +14,7 @@ pub bounds-places-y : goal.bounds-places-y
 bounds-places-y c = inside-here _ _ _ c.loop-k.invariant.ahead
 
 pub loop-k-preserved : goal.loop-k-preserved
-loop-k-preserved c = let l = c.loop-k in stepping-more _ _ _ _ _ l.invariant (omega arith) _ c.wide-y.ensures
+loop-k-preserved c = let l = c.loop-k in stepping-more _ _ _ _ _ l.invariant (omega arith) _ refl
 
 pub returns : goal.returns
 returns c = stepping-end _ _ _ _ _ c.loop-k.invariant (omega arith)

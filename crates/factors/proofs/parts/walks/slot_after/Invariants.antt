@@ -1,9 +1,5 @@
-use Prim.Native.Nat.{◌-◌}
 use Rattle.factors.proofs.Stretches.{Stepping}
 use Rattle.factors.proofs.parts.walks.slot_after.Given as goal
 
 abbrev pub invariant-loop-k : goal.invariant-loop-k
-invariant-loop-k l = Stepping l.places.now l.n l.x l.k l.y
-
-abbrev pub decreases-loop-k : goal.decreases-loop-k
-decreases-loop-k l = l.n - l.k
+invariant-loop-k l = Stepping l.places.now l.n l.x l._k l.y
