@@ -16,7 +16,7 @@ use Rattle.counting.specs.Checks.{first}
 use Rattle.counting.proofs.Checks.{first-here, first-later, first-none, known_past}
 use Rattle.counting.proofs.Stores.{length-flat}
 use Rattle.answers.specs.Answers.{placeless, copies_of, answer, no_counts, listed, listed_of}
-use Rattle.answers.specs.declared.Refusal.{Refusal}
+use Rattle.answers.specs.Answers.{Refusal}
 use Rattle.answers.specs.declared.Answer.{Answer}
 use Rattle.answers.specs.declared.Tally.{Tally}
 use Rattle.answers.proofs.Answers.{listed-refused, listed-done}

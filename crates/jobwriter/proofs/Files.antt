@@ -17,7 +17,7 @@ use Rattle.counting.proofs.Tests.{or-off_l, bit_le}
 use Rattle.counting.proofs.Checks.{first-here, first-later, first-none, first_off, known_past, known-none}
 use Rattle.counting.proofs.Lists.{length-each, get_d-each}
 use Rattle.answers.specs.Answers.{placeless, sized}
-use Rattle.answers.specs.declared.Refusal.{Refusal}
+use Rattle.answers.specs.Answers.{Refusal}
 use Rattle.racks.specs.Limits.{FREE}
 use Rattle.racks.specs.Racks.{Rack, of_caps, rack_at, users, base, slots, spare_of}
 use Rattle.racks.specs.Table.{dest}
