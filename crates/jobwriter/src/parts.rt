@@ -1,5 +1,5 @@
 // What the writer puts together: numbers counted, then put one behind another into the lent buffer, then the card bytes.
-ghost use Rattle.std.specs.Prelude.{◌≡◌, ◌+◌, ◌≤◌, ◌<◌, length};
+ghost use Rattle.std.specs.Prelude.{◌≡◌, ◌+◌, ◌≤◌, ◌<◌, length, get_or};
 ghost use Rattle.std.proofs.lemmas.List.Edits.{sets};
 ghost use Rattle.counting.specs.Lists.{each};
 ghost use Rattle.racks.specs.Limits.{SLOTS};
@@ -27,25 +27,28 @@ fn put_number(out: &mut [u8], at: usize, x: u16) -> usize
     requires { (x < 16384) × (at + 1 < length out.old) }
     ensures { Put (numeral_of x) out.old at out.new result }
 {
-    let more = tables::parts::one_if(128 <= x);
+    let more = u16::from(128 <= x);
     out[at] = (x % 128 + 128 * more) as u8;
     out[at + 1] = (x / 128) as u8;
     at + 1 + more as usize
 }
 
-// The m_p of a job, each from where its rack begins to its spares; the position behind them.
+// m_p of rack p: from where the rack begins to its spares.
+fn cap_at(job: &Job, p: usize) -> u16
+    requires { Sound job.now × (p < job.now.racks) }
+    ensures { result ≡ get_or (each cap_of (racks_of job.now)) p 0 }
+{
+    job.spares[p] - racks::parts::first_slot(&job.ends, p)
+}
+
+// The m_p of a job; the position behind them.
 fn put_caps(job: Job, out: &mut [u8], at: usize) -> usize
     requires { Sound job × Roomy (each cap_of (racks_of job)) at out.old }
     ensures { Put (numerals_of (each cap_of (racks_of job))) out.old at out.new result }
 {
     let mut next = at;
-    let mut low: u16 = 0;
-    let mut p: usize = 0;
-    while p < job.racks {
-        let m = job.spares[p] - low;
-        next = put_number(out, next, m);
-        low = job.ends[p];
-        p = p + 1;
+    for p in 0..job.racks {
+        next = put_number(out, next, cap_at(&job, p));
     }
     next
 }
@@ -56,11 +59,8 @@ fn put_entries(out: &mut [u8], at: usize, places: &[u16]) -> usize
     ensures { Put (numerals_of (each file_entry places.now)) out.old at out.new result }
 {
     let mut next = at;
-    let mut g: usize = 0;
-    while g < places.len() {
-        let x = file_entry(places[g]);
-        next = put_number(out, next, x);
-        g = g + 1;
+    for x in places {
+        next = put_number(out, next, file_entry(*x));
     }
     next
 }
@@ -71,15 +71,10 @@ fn caps_size(job: Job) -> usize
     ensures { result ≡ length (numerals_of (each cap_of (racks_of job))) }
 {
     let mut more: u16 = 0;
-    let mut low: u16 = 0;
-    let mut p: usize = 0;
-    while p < job.racks {
-        let m = job.spares[p] - low;
-        more = more + tables::parts::one_if(128 <= m);
-        low = job.ends[p];
-        p = p + 1;
+    for p in 0..job.racks {
+        more += u16::from(128 <= cap_at(&job, p));
     }
-    p + more as usize
+    job.racks + more as usize
 }
 
 // How many bytes the entries are.
@@ -88,13 +83,10 @@ fn entries_size(places: &[u16]) -> usize
     ensures { result ≡ length (numerals_of (each file_entry places.now)) }
 {
     let mut more: u16 = 0;
-    let mut g: usize = 0;
-    while g < places.len() {
-        let x = file_entry(places[g]);
-        more = more + tables::parts::one_if(128 <= x);
-        g = g + 1;
+    for x in places {
+        more += u16::from(128 <= file_entry(*x));
     }
-    g + more as usize
+    places.len() + more as usize
 }
 
 // How many bytes all numbers of the file are: N has one group.
@@ -102,8 +94,8 @@ fn numbers_size(job: Job, b: usize, places: &[u16]) -> usize
     requires { Writable job b places.now }
     ensures { result ≡ length (numerals_of (file_numbers (racks_of job) b places.now)) }
 {
-    let more = tables::parts::one_if(128 <= b);
-    2 + more as usize + caps_size(job) + entries_size(places)
+    let more = usize::from(128 <= b);
+    2 + more + caps_size(job) + entries_size(places)
 }
 
 // The file, from the front of a buffer that has room for it. There are card bytes, which are put over what the last number left behind it.
@@ -115,7 +107,7 @@ fn put_file(job: Job, b: usize, places: &[u16], cards: &[u8], out: &mut [u8])
     next = put_number(out, next, b as u16);
     next = put_caps(job, out, next);
     next = put_entries(out, next, places);
-    racks::parts::put_bytes(out, next, cards);
+    racks::parts::put(out, next, cards);
 }
 
 // Write file, by the job: the length first, then one pass.

@@ -1,33 +1,34 @@
-use lib.Dec.{leb}
+use mathlib.Core.Path.{◌∙◌}
+use Prim.Native.Nat.{◌≤◌}
+use native.Mathlib.Omega.{arith}
 use Rattle.counting.proofs.Tests.{bit_le}
 use Rattle.counting.proofs.Lists.{length-each}
-use Prim.Native.Nat.{◌-◌, ◌≤◌}
-use native.Mathlib.Omega.{arith}
 use Rattle.counting.specs.Lists.{each}
 use Rattle.jobwriter.specs.Writing.{file_entry}
-use Rattle.jobwriter.proofs.Puts.{none-size, size-more, all-size}
+use Rattle.jobwriter.proofs.Puts.{bit_is, none-size, size-more, all-size}
 use Rattle.jobwriter.proofs.Files.{entry_at}
 use Rattle.jobwriter.proofs.parts.entries_size.Goals as goal
-use Rattle.jobwriter.proofs.parts.entries_size.Goals.{After-one_if-more}
+use Rattle.jobwriter.proofs.parts.entries_size.Goals.{After-from-more}
 
-pub loop-g-init : goal.loop-g-init
-loop-g-init c = (omega arith, omega arith, none-size (each file_entry c.args.places.now))
+pub loop-x-init : goal.loop-x-init
+loop-x-init c = (omega arith, none-size (each file_entry c.args.places.now))
 
 -- a second group, or none
-one : (c : After-one_if-more) → c.one_if-more.result ≤ 1
-one c = bit_le c.one_if-more.result (leb 128 c.file_entry-x.result) c.one_if-more.ensures
+one : (c : After-from-more) → c.from-more.result ≤ 1
+one c = bit_le _ _ (c.from-more.ensures ∙ bit_is _)
 
 pub overflow_add-more : goal.overflow_add-more
-overflow_add-more c = omega (arith, one c, c.loop-g.invariant.1, c.requires.1)
+overflow_add-more c = omega (arith, one c, c.loop-x.invariant.0, c.requires.1)
 
-pub loop-g-preserved : goal.loop-g-preserved
-loop-g-preserved c =
-    let l = c.loop-g in
-    let e = entry_at c.args.places.now l.g c.file_entry-x.result (omega arith) c.file_entry-x.ensures in
-    (omega arith, omega (arith, one c, l.invariant.1), size-more (each file_entry c.args.places.now) l.g (omega (arith, length-each file_entry c.args.places.now)) _ e _ _ c.requires.0 l.invariant.2 c.one_if-more.ensures)
+pub loop-x-preserved : goal.loop-x-preserved
+loop-x-preserved c =
+    let l = c.loop-x in
+    let e = entry_at c.args.places.now l.x-index c.file_entry.result (omega arith) c.file_entry.ensures in
+    (omega (arith, one c, l.invariant.0), size-more (each file_entry c.args.places.now) l.x-index (omega (arith, length-each file_entry c.args.places.now)) _ e _ _ c.requires.0 l.invariant.1 (c.from-more.ensures ∙ bit_is _))
 
 pub overflow_add-result : goal.overflow_add-result
-overflow_add-result c = omega (arith, c.loop-g.invariant.1)
+overflow_add-result c = omega (arith, c.loop-x.invariant.0, c.requires.1)
 
 pub returns : goal.returns
-returns c = all-size (each file_entry c.args.places.now) c.loop-g.g (omega (arith, length-each file_entry c.args.places.now)) _ c.loop-g.invariant.2
+returns c =
+    all-size (each file_entry c.args.places.now) c.loop-x.x-index (omega (arith, length-each file_entry c.args.places.now)) _ (omega (arith, c.loop-x.invariant.1))

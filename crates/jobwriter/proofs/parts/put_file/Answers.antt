@@ -39,8 +39,8 @@ put_caps-next-requires c = (c.requires.0.sound, room-caps c.requires.0 c.args.ca
 pub put_entries-next-requires : goal.put_entries-next-requires
 put_entries-next-requires c = (c.requires.0.short, room-entries c.requires.0 c.args.cards.now c.args.out.now c.requires.1 c.requires.2 (caps (goal.at.put_entries-next-requires c).After-put_caps-next))
 
-pub put_bytes-requires : goal.put_bytes-requires
-put_bytes-requires c = room-cards c.requires.0 c.args.cards.now c.args.out.now c.requires.1 c.requires.2 (caps (goal.at.put_bytes-requires c).After-put_caps-next) c.put_entries-next.ensures
+pub put-requires : goal.put-requires
+put-requires c = room-cards c.requires.0 c.args.cards.now c.args.out.now c.requires.1 c.requires.2 (caps (goal.at.put-requires c).After-put_caps-next) c.put_entries-next.ensures
 
 pub returns : goal.returns
-returns c = c.put_bytes.ensures ∙ file-put c.requires.0 c.args.cards.now c.args.out.now c.requires.1 c.requires.2 (caps (goal.at.returns c).After-put_caps-next) c.put_entries-next.ensures
+returns c = c.put.ensures ∙ file-put c.requires.0 c.args.cards.now c.args.out.now c.requires.1 c.requires.2 (caps (goal.at.returns c).After-put_caps-next) c.put_entries-next.ensures
