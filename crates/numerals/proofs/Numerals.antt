@@ -9,10 +9,10 @@ use native.Mathlib.Decide.{ℕ_discrete, dec_le}
 use lib.Dec.{eqb, ltb}
 use borrow.Author.Tests.{eq-eqb, ne_eqb, eqb-true, eqb-false, lt-ltb, le-ltb}
 use Rattle.counting.specs.Checks.{first, known, done}
-use Rattle.counting.proofs.Tests.{by-test, or_l, or_r, or-none}
+use Rattle.counting.proofs.Tests.{pick_same, by-test, or_l, or_r, or-none}
 use Rattle.counting.proofs.Checks.{first-here, first-later, first-none, first_of}
 use Rattle.numerals.specs.Numeral.{Got, refused, numeral, Numerals, numerals}
-use Rattle.answers.specs.Answers.{Refusal, refusal_of}
+use Rattle.answers.specs.Answers.{Refusal, placeless, refusal_of}
 use Rattle.answers.specs.declared.Refusal as given
 use Rattle.answers.specs.declared.Refusal.TheVariants as case
 use Rattle.numerals.specs.parts.Bounds.{checked_numeral, outside, place_with}
@@ -187,6 +187,15 @@ module _ (file : List ℕ) (at : ℕ) where
 pub own-place : (x : Refusal) → x.place ≡ place_with x x.number
 unfolding place_with
 own-place x = rw (eq-eqb x.number x.number refl)
+
+-- a number with a place
+abbrev placed : ℕ → ℕ → Refusal
+placed n p = record { number = n; place = p }
+
+-- what is refused as one that has no place has none
+pub bare-place : (e : given.Refusal) (m : ℕ) → (refusal_of e).place ≡ place_with (placeless m) (refusal_of e).number → refusal_of e ≡ placeless (refusal_of e).number
+unfolding place_with
+bare-place e m q = ap (placed (refusal_of e).number) (q ∙ pick_same (eqb (refusal_of e).number m) 0)
 
 -- between two limits, by the tests that the code makes
 module _ (low high n x : ℕ) where
