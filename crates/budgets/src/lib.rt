@@ -1,10 +1,11 @@
 // Budgeted moves.
 #![tactic(auto)]
 
+ghost use Rattle.answers.specs.Answers.{answered};
 ghost use Rattle.moves.specs.Phases.{BudgetedMoves};
 ghost use Rattle.moves.specs.Moves.{held, outcome_of};
 
-use answers::Answer;
+use answers::{Refusal, Tally};
 use racks::Job;
 
 pub mod parts;
@@ -16,9 +17,9 @@ pub fn budgeted_moves(
     places: &mut [u16],
     cards: &mut [u8],
     k: usize,
-) -> Answer
-    ensures { BudgetedMoves caps.now b (held places.old cards.old) k (outcome_of result places.new cards.new) }
+) -> Result<Tally, Refusal>
+    ensures { BudgetedMoves caps.now b (held places.old cards.old) k (outcome_of (answered result) places.new cards.new) }
 {
-    let job = Job::of(caps);
+    let job = Job::of_cards(caps, b)?;
     parts::budget_job(job, b, places, cards, k)
 }

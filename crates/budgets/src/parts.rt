@@ -1,8 +1,10 @@
 // The engine that makes moves, phase by phase, as many as an allowance permits.
-ghost use Rattle.std.specs.Prelude.{◌≡◌, ◌+◌, ◌*◌, ◌<◌, length, get_or};
+ghost use Rattle.std.specs.Prelude.{◌≡◌, ◌+◌, ◌*◌, ◌<◌, length, get_or, ◌≤◌};
+ghost use Rattle.answers.specs.Answers.{answered};
+ghost use Rattle.racks.specs.Limits.{BYTES};
 ghost use Rattle.racks.specs.Racks.{slots};
 ghost use Rattle.racks.specs.parts.Legal.{Spared};
-ghost use Rattle.racks.specs.Job.{racks_of, FitSpared};
+ghost use Rattle.racks.specs.Job.{racks_of, SoundSpared};
 ghost use Rattle.tables.specs.parts.Tables.{Open};
 ghost use Rattle.bits.specs.parts.Bits.{WORDS};
 ghost use Rattle.queues.specs.parts.Line.{room_of, LINE};
@@ -11,7 +13,7 @@ ghost use Rattle.moves.specs.Moves.{held, outcome_of};
 ghost use Rattle.budgets.specs.parts.Engine.{Notable, AllNotable, MoveNoted, Noted, Runnable, PhaseRun, Going, Made};
 ghost use Rattle.budgets.specs.parts.Budgeted.{budgeted_by};
 
-use answers::{Answer, Tally};
+use answers::{Refusal, Tally};
 use queues::parts::{arrivals, line};
 use racks::Job;
 
@@ -122,15 +124,17 @@ pub fn move_cards(
 }
 
 // Budgeted moves, by the job.
-pub fn budget_job(job: Job, b: usize, places: &mut [u16], cards: &mut [u8], k: usize) -> Answer
-    requires { FitSpared job }
-    ensures { outcome_of result places.new cards.new ≡ budgeted_by job b (held places.old cards.old) k }
+pub fn budget_job(
+    job: Job,
+    b: usize,
+    places: &mut [u16],
+    cards: &mut [u8],
+    k: usize,
+) -> Result<Tally, Refusal>
+    requires { SoundSpared job × (b ≤ BYTES) }
+    ensures { outcome_of (answered result) places.new cards.new ≡ budgeted_by job b (held places.old cards.old) k }
 {
     let mut racking = [0u8; Job::MAX_SLOTS];
-    let refusal = tables::parts::cards_refusal(job, b, places, cards, &mut racking);
-    if refusal.number != 0 {
-        return Answer::refused(refusal);
-    }
-    let tally = move_cards(job, b, k, places, cards, &racking);
-    Answer::done(tally)
+    tables::parts::check_cards(job, b, places, cards, &mut racking)?;
+    Ok(move_cards(job, b, k, places, cards, &racking))
 }

@@ -15,19 +15,20 @@ use Rattle.counting.specs.Lists.{flat}
 use Rattle.counting.specs.Checks.{first}
 use Rattle.counting.proofs.Checks.{first-here, first-later, first-none, known_past}
 use Rattle.counting.proofs.Stores.{length-flat}
-use Rattle.answers.specs.Answers.{placeless, copies_of, answer, no_counts, listed, listed_of}
-use Rattle.answers.specs.declared.Refusal.{Refusal}
-use Rattle.answers.specs.declared.Answer.{Answer}
+use Rattle.std.specs.Prelude.{Ok, Err}
+use Rattle.answers.specs.Answers.{Refusal, placeless, refusal_of, answered, copies_of, no_counts, listed, listed_of}
+use Rattle.answers.specs.declared.Refusal as given
+use Rattle.answers.specs.declared.Refusal.TheVariants as case
 use Rattle.answers.specs.declared.Tally.{Tally}
 use Rattle.answers.proofs.Answers.{listed-refused, listed-done}
 use Rattle.racks.specs.Racks.{Rack, of_caps}
-use Rattle.racks.specs.Numbers.{some_away, too_short}
-use Rattle.racks.specs.Job.{racks_of, job_of}
+use Rattle.racks.specs.Numbers.{some_away, too_short, rack_checks}
+use Rattle.racks.specs.Job.{racks_of, good_job}
 use Rattle.racks.specs.declared.Job.{Job}
 use Rattle.racks.proofs.Places.{placeless-alone}
 use Rattle.tables.specs.parts.Tables.{refusal_by, table_number}
 use Rattle.tables.proofs.Refusals.{placeless_by}
-use Rattle.tables.proofs.Tables.{listed_by}
+use Rattle.tables.proofs.Capacities.{listed-racks, of_refusal}
 use Rattle.factors.specs.Copies.{copy_list, copy_checks, copied}
 use Rattle.copies.specs.parts.Writes.{put_copies, AllWritten, fits, listed_here, copy_number, copied_by}
 use Rattle.factors.specs.parts.Chains.{Chained}
@@ -49,11 +50,11 @@ fits-count places room count size = elim (leb_tells (2 * count) room) [
 -- the table is accepted and nothing is away
 module _ (places lent : List ℕ) where
   -- the lent list is too short
-  pub here-short : fits (length lent) places ≡ false → (a : Answer) → a ≡ answer (placeless 13) no_counts → listed_of a lent ≡ listed_here places lent
+  pub here-short : fits (length lent) places ≡ false → listed_of (answered (Err case.TooShort)) lent ≡ listed_here places lent
   unfolding listed_here fits too_short
-  here-short e a ea =
-      listed-refused (placeless (first ((too_short lent (flat (copy_list places)), 13) ∷ []))) (copies_of (length (copy_list places))) (flat (copy_list places)) lent (placeless 13) a ea
-      (ap placeless (sym (first-here _ 13 [] (rw (length-flat (copy_list places)) (not-off-is e))))) (λ z. omega arith)
+  here-short e =
+      listed-refused (placeless (first ((too_short lent (flat (copy_list places)), 13) ∷ []))) (copies_of (length (copy_list places))) (flat (copy_list places)) lent case.TooShort
+      (ap placeless (sym (first-here _ 13 [] (rw (length-flat (copy_list places)) (not-off-is e)))))
 
   -- it has room
   pub fits-room : fits (length lent) places ≡ true → 2 * length (copy_list places) ≤ length lent
@@ -61,10 +62,10 @@ module _ (places lent : List ℕ) where
   fits-room e = ltb-false (length lent) (2 * length (copy_list places)) (not_on e)
 
   -- the list is written, and the tally has its copies
-  pub here-done : fits (length lent) places ≡ true → (a : Answer) (none t : Tally) (seen after marks : List ℕ) → a ≡ answer (placeless 0) t → none ≡ no_counts → AllWritten places lent seen none t after marks → listed_of a after ≡ listed_here places lent
+  pub here-done : fits (length lent) places ≡ true → (none t : Tally) (seen after marks : List ℕ) → none ≡ no_counts → AllWritten places lent seen none t after marks → listed_of (answered (Ok t)) after ≡ listed_here places lent
   unfolding listed_here fits too_short put_copies
-  here-done e a none t seen after marks ea en w =
-      listed-done (placeless (first ((too_short lent (flat (copy_list places)), 13) ∷ []))) (copies_of (length (copy_list places))) (flat (copy_list places)) lent a t after ea (w.count-is ∙ rw (en, zero-add)) w.list-is
+  here-done e none t seen after marks en w =
+      listed-done (placeless (first ((too_short lent (flat (copy_list places)), 13) ∷ []))) (copies_of (length (copy_list places))) (flat (copy_list places)) lent t after (w.count-is ∙ rw (en, zero-add)) w.list-is
       (ap placeless (sym (first-later _ 13 [] (rw (length-flat (copy_list places)) (not_on e)) ∙ first-none)))
 
 -- the refusal of the call, by a job
@@ -84,7 +85,13 @@ module _ (job : Job) (places lent : List ℕ) where
         (sym (known_past (table_number job places) _ z ∙ first-later _ 12 _ home)))
 
 -- a job made from capacities gives their list
-pub copied_by_lem : (caps : List ℕ) (job : Job) → job ≡ job_of (of_caps caps) → (places lent : List ℕ) → copied_by job places lent ≡ copied (of_caps caps) places lent
+pub copied_by_lem : (caps : List ℕ) (job : Job) → (first (rack_checks (of_caps caps)) ≡ 0) × (job ≡ good_job (of_caps caps)) → (places lent : List ℕ) → copied_by job places lent ≡ copied (of_caps caps) places lent
 unfolding copied_by copy_number copied copy_checks
-copied_by_lem caps job is places lent =
-    listed_by caps job is places (λ (r : List Rack). (some_away r places, 12) ∷ (too_short lent (flat (copy_list places)), 13) ∷ []) (λ _. copies_of (length (copy_list places))) (λ _. flat (copy_list places)) lent
+copied_by_lem caps job m places lent =
+    of_refusal caps job m places (λ (r : List Rack). (some_away r places, 12) ∷ (too_short lent (flat (copy_list places)), 13) ∷ [])
+    (λ (x : Refusal) (r : List Rack). listed x (copies_of (length (copy_list places))) (flat (copy_list places)) lent)
+
+-- capacities that are refused give their refusal
+pub copied-racks : (caps : List ℕ) (e : given.Refusal) → refusal_of e ≡ placeless (first (rack_checks (of_caps caps))) → (places lent : List ℕ) → listed_of (answered (Err e)) lent ≡ copied (of_caps caps) places lent
+unfolding copied copy_checks
+copied-racks caps e is places lent = listed-racks caps e is places ((some_away (of_caps caps) places, 12) ∷ (too_short lent (flat (copy_list places)), 13) ∷ []) (copies_of (length (copy_list places))) (flat (copy_list places)) lent

@@ -1,14 +1,14 @@
 // What the copy list puts together, and the shuffle after it: the cards that are away, the list in a lent one.
 ghost use Rattle.std.specs.Prelude.{◌≡◌, ◌*◌, ◌≤◌, ◌<◌, length};
-ghost use Rattle.answers.specs.Answers.{plus_copies, listed_of};
+ghost use Rattle.answers.specs.Answers.{plus_copies, answered, listed_of};
 ghost use Rattle.factors.specs.parts.Chains.{Chained};
 ghost use Rattle.factors.specs.parts.Walks.{COUNTED, LISTED, SomeMarked, Unmarked};
-ghost use Rattle.racks.specs.Job.{Fit};
+ghost use Rattle.racks.specs.Job.{Sound};
 ghost use Rattle.tables.specs.parts.Tables.{away_by};
 ghost use Rattle.factors.specs.Copies.{copy_list};
 ghost use Rattle.copies.specs.parts.Writes.{some_away_by, put_copies, listed_here, copied_by};
 
-use answers::{Answer, Tally};
+use answers::{Refusal, Tally};
 use factors::parts::walks;
 use racks::Job;
 
@@ -54,32 +54,32 @@ pub fn list_copies(
 }
 
 // The copies of an accepted table with nothing away: where the lent list has room for them, they are listed in it.
-pub fn list_counted(places: &[u16], seen: &mut [u8; Job::MAX_SLOTS], lent: &mut [u16]) -> Answer
+pub fn list_counted(
+    places: &[u16],
+    seen: &mut [u8; Job::MAX_SLOTS],
+    lent: &mut [u16],
+) -> Result<Tally, Refusal>
     requires { Chained places.now × Unmarked places.now COUNTED seen.old × Unmarked places.now LISTED seen.old }
-    ensures { listed_of result lent.new ≡ listed_here places.now lent.old }
+    ensures { listed_of (answered result) lent.new ≡ listed_here places.now lent.old }
 {
     let mut sources = [Job::FREE; Job::SOURCES];
     walks::fill_sources(places, &mut sources);
-    if lists::has_room(places, &sources, seen, lent.len()) {
-        let none = Tally::none();
-        let tally = lists::write_factors(places, &sources, seen, lent, none);
-        return Answer::done(tally);
+    if !lists::has_room(places, &sources, seen, lent.len()) {
+        return Err(Refusal::TooShort);
     }
-    Answer::of(13)
+    let none = Tally::none();
+    Ok(lists::write_factors(places, &sources, seen, lent, none))
 }
 
 // The copy list, by the job. Once nothing is away, the racking serves as marks.
-pub fn copy_job(job: Job, places: &[u16], lent: &mut [u16]) -> Answer
-    requires { Fit job }
-    ensures { listed_of result lent.new ≡ copied_by job places.now lent.old }
+pub fn copy_job(job: Job, places: &[u16], lent: &mut [u16]) -> Result<Tally, Refusal>
+    requires { Sound job }
+    ensures { listed_of (answered result) lent.new ≡ copied_by job places.now lent.old }
 {
     let mut racking = [0u8; Job::MAX_SLOTS];
-    let refusal = tables::parts::table_refusal(job, places, &mut racking);
-    if refusal.number != 0 {
-        return Answer::refused(refusal);
-    }
+    tables::parts::check_racked(job, places, &mut racking)?;
     if some_away(&racking, places) {
-        return Answer::of(12);
+        return Err(Refusal::SomeAway);
     }
     list_counted(places, &mut racking, lent)
 }

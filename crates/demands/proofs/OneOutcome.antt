@@ -16,7 +16,7 @@ use Rattle.shuffle.proofs.One.{shuffle-cards-one}
 use Rattle.runs.proofs.One.{whole-run-one}
 use Rattle.parsing.specs.declared.FileAnswer.{FileAnswer}
 use Rattle.jobfile.proofs.One.{read-file-one, rest_of-one, card-bytes-one, step-at-one, new-one, next_one, read_job-one}
-use Rattle.answers.specs.declared.SizeAnswer.{SizeAnswer}
+use Rattle.answers.specs.Answers.{SizeAnswer}
 use Rattle.jobwriter.proofs.One.{write-file-one}
 use Rattle.listing.proofs.One.{list_job-one}
 use Rattle.flat.specs.Flat.{answer_of, file_of, size_of}

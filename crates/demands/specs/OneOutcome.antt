@@ -6,7 +6,7 @@ use Rattle.counting.specs.One.{One, OneSeen}
 use Rattle.racks.specs.Job.{JobOf}
 use Rattle.answers.specs.Answers.{TallyNone, TallyOfMoves, TallyOfCopies, RefusalOf, AnswerRefused, AnswerOf, AnswerDone}
 use Rattle.answers.specs.declared.Tally.{Tally}
-use Rattle.answers.specs.declared.Refusal.{Refusal}
+use Rattle.answers.specs.Answers.{Refusal}
 use Rattle.answers.specs.declared.Answer.{Answer}
 use Rattle.tables.specs.Check.{CheckTable}
 use Rattle.slots.specs.Slots.{SlotQuestion}
@@ -24,7 +24,7 @@ use Rattle.jobfile.specs.declared.Reader.{Reader}
 use Rattle.jobfile.specs.declared.JobFile.{JobFile}
 use Rattle.jobwriter.specs.Writing.{WriteFile}
 use Rattle.listing.specs.Listing.{ListJob}
-use Rattle.answers.specs.declared.SizeAnswer.{SizeAnswer}
+use Rattle.answers.specs.Answers.{SizeAnswer}
 use Rattle.flat.specs.Flat.{answer_of, file_of, size_of}
 use Rattle.flat.specs.declared.Answer as c
 use Rattle.flat.specs.declared.FileAnswer as c-file

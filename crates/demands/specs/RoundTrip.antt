@@ -4,7 +4,7 @@
 use Rattle.std.specs.Prelude.{◌≡◌, List, ℕ, ◌+◌, ◌-◌, ◌*◌, ◌≤◌, length, take}
 use Rattle.std.proofs.lemmas.List.Edits.{sets}
 use Rattle.answers.specs.Answers.{placeless, answer, no_counts}
-use Rattle.answers.specs.declared.SizeAnswer.{SizeAnswer}
+use Rattle.answers.specs.Answers.{SizeAnswer}
 use Rattle.racks.specs.Racks.{of_caps}
 use Rattle.moves.specs.Moves.{held}
 use Rattle.parsing.specs.File.{read}

@@ -2,7 +2,7 @@
 use mathlib.Core.Path.{◌≡◌, refl, sym, ap, ◌∙◌}
 use mathlib.Core.Logic.{◌≢◌}
 use mathlib.Core.List.{List, [], ◌∷◌, ◌++◌, append_assoc}
-use Prim.Native.Nat.{ℕ, ◌+◌, ◌-◌, ◌*◌, ◌≤◌, ◌<◌}
+use Prim.Native.Nat.{ℕ, ◌+◌, ◌*◌, ◌≤◌, ◌<◌}
 use native.Mathlib.Omega.{arith}
 use native.Mathlib.Decide.{ℕ_discrete}
 use native.Mathlib.Nat.{suc-mul, mul-le-mul_right}
@@ -17,7 +17,7 @@ use Rattle.counting.proofs.Tests.{or-off_l, bit_le}
 use Rattle.counting.proofs.Checks.{first-here, first-later, first-none, first_off, known_past, known-none}
 use Rattle.counting.proofs.Lists.{length-each, get_d-each}
 use Rattle.answers.specs.Answers.{placeless, sized}
-use Rattle.answers.specs.declared.Refusal.{Refusal}
+use Rattle.answers.specs.Answers.{Refusal}
 use Rattle.racks.specs.Limits.{FREE}
 use Rattle.racks.specs.Racks.{Rack, of_caps, rack_at, users, base, slots, spare_of}
 use Rattle.racks.specs.Table.{dest}
@@ -27,7 +27,6 @@ use Rattle.racks.specs.parts.Legal.{Legal, Spared}
 use Rattle.racks.specs.declared.Job.{Job}
 use Rattle.racks.proofs.Geometry.{spare-is, spare-end, end_le}
 use Rattle.racks.proofs.Jobs.{sound-racks}
-use Rattle.racks.proofs.Passing.{At, at_bounds}
 use Rattle.racks.proofs.Table.{read-dest}
 use Rattle.racks.proofs.LegalTable.{legal-slot, spare_lt}
 use Rattle.tables.specs.parts.Tables.{OpenCards, refusal_by, cards_number}
@@ -52,7 +51,7 @@ entry_at places g x h e = e ∙ sym (get_d-each file_entry places g 0 0 h)
 
 -- m_p: from where rack p begins to its spares
 module _ (racks : List Rack) where
-  cap-at : (p : ℕ) → p < length racks → base racks p + get_or (each cap_of racks) p 0 ≡ spare_of racks p
+  pub cap-at : (p : ℕ) → p < length racks → base racks p + get_or (each cap_of racks) p 0 ≡ spare_of racks p
   unfolding users rack_at
   cap-at p h = omega (arith, spare-is racks p, get_d-each cap_of racks p (record { users = 0; spares = 0 }) 0 h)
 
@@ -93,29 +92,9 @@ module _ (racks : List Rack) where
         length-append (numeral_of (length racks)) (numeral_of b),
       )
 
--- m_p as the code reads it: rack p begins at slot low
-pub record Cap (job : Job) (p low : ℕ) : Type 0 where
-  pub rack : p < 64
-  pub one : p < length (each cap_of (racks_of job))
-  pub up : low ≤ get_or job.spares p 0
-  pub is : get_or job.spares p 0 - low ≡ get_or (each cap_of (racks_of job)) p 0
-
-module _ {job : Job} (s : Sound job) where
-  -- there is one more rack
-  pub cap-next : {p low : ℕ} → At job p low → p < job.racks → Cap job p low
-  cap-next {p} {low} a h =
-      let n = at_bounds s a h in
-      let c = cap-at (racks_of job) p n.one in
-      record {
-        rack = n.rack;
-        one = omega (arith, length-each cap_of (racks_of job), n.one);
-        up = omega (arith, c, n.spares, a.low-is);
-        is = omega (arith, c, n.spares, a.low-is);
-      }
-
-  -- there is none
-  pub caps-all : {p low : ℕ} → At job p low → job.racks ≤ p → length (each cap_of (racks_of job)) ≤ p
-  caps-all a h = omega (arith, length-each cap_of (racks_of job), sound-racks job s)
+-- as many m_p as racks
+pub caps-long : {job : Job} → Sound job → length (each cap_of (racks_of job)) ≡ job.racks
+caps-long {job} s = omega (arith, length-each cap_of (racks_of job), sound-racks job s)
 
 -- what acceptance gives the writer
 module _ {job : Job} {b : ℕ} {places cards racking : List ℕ} (o : OpenCards job b places cards racking) where

@@ -7,7 +7,7 @@ use Rattle.racks.specs.Limits.{FREE}
 use Rattle.racks.specs.Racks.{Rack, of_caps}
 use Rattle.racks.specs.Numbers.{card_checks, too_short, refusal_in}
 use Rattle.answers.specs.Answers.{Sized, sized, sized_of}
-use Rattle.answers.specs.declared.SizeAnswer.{SizeAnswer}
+use Rattle.answers.specs.Answers.{SizeAnswer}
 
 -- a number in groups of seven bits, lowest first, the top bit set where another follows, at most n groups: the shortest form
 unfoldable pub groups_of : ℕ → ℕ → List ℕ

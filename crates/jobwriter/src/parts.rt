@@ -1,5 +1,5 @@
 // What the writer puts together: numbers counted, then put one behind another into the lent buffer, then the card bytes.
-ghost use Rattle.std.specs.Prelude.{◌≡◌, ◌+◌, ◌≤◌, ◌<◌, length};
+ghost use Rattle.std.specs.Prelude.{◌≡◌, ◌+◌, ◌≤◌, ◌<◌, length, get_or};
 ghost use Rattle.std.proofs.lemmas.List.Edits.{sets};
 ghost use Rattle.counting.specs.Lists.{each};
 ghost use Rattle.racks.specs.Limits.{SLOTS};
@@ -33,17 +33,22 @@ fn put_number(out: &mut [u8], at: usize, x: u16) -> usize
     at + 1 + more as usize
 }
 
-// The m_p of a job, each from where its rack begins to its spares; the position behind them.
+// m_p of rack p: from where the rack begins to its spares.
+fn cap_at(job: &Job, p: usize) -> u16
+    requires { Sound job.now × (p < job.now.racks) }
+    ensures { result ≡ get_or (each cap_of (racks_of job.now)) p 0 }
+{
+    job.spares[p] - racks::parts::first_slot(&job.ends, p)
+}
+
+// The m_p of a job; the position behind them.
 fn put_caps(job: Job, out: &mut [u8], at: usize) -> usize
     requires { Sound job × Roomy (each cap_of (racks_of job)) at out.old }
     ensures { Put (numerals_of (each cap_of (racks_of job))) out.old at out.new result }
 {
     let mut next = at;
-    let mut low: u16 = 0;
     for p in 0..job.racks {
-        let m = job.spares[p] - low;
-        next = put_number(out, next, m);
-        low = job.ends[p];
+        next = put_number(out, next, cap_at(&job, p));
     }
     next
 }
@@ -66,11 +71,8 @@ fn caps_size(job: Job) -> usize
     ensures { result ≡ length (numerals_of (each cap_of (racks_of job))) }
 {
     let mut more: u16 = 0;
-    let mut low: u16 = 0;
     for p in 0..job.racks {
-        let m = job.spares[p] - low;
-        more += u16::from(128 <= m);
-        low = job.ends[p];
+        more += u16::from(128 <= cap_at(&job, p));
     }
     job.racks + more as usize
 }

@@ -1,9 +1,10 @@
 // Moves: one move.
 #![tactic(auto)]
 
+ghost use Rattle.answers.specs.Answers.{answered};
 ghost use Rattle.moves.specs.Moves.{held, outcome_of, OneMove};
 
-use answers::Answer;
+use answers::{Refusal, Tally};
 use racks::Job;
 
 pub mod parts;
@@ -16,9 +17,9 @@ pub fn one_move(
     cards: &mut [u8],
     from: usize,
     to: usize,
-) -> Answer
-    ensures { OneMove caps.now b (held places.old cards.old) (from, to) (outcome_of result places.new cards.new) }
+) -> Result<Tally, Refusal>
+    ensures { OneMove caps.now b (held places.old cards.old) (from, to) (outcome_of (answered result) places.new cards.new) }
 {
-    let job = Job::of(caps);
+    let job = Job::of_cards(caps, b)?;
     parts::move_job(job, b, places, cards, from, to)
 }

@@ -7,33 +7,33 @@ use slots::{Kind, State};
 use std::io;
 use std::io::Write;
 
-fn say_check<W: Write>(out: &mut W, name: &[u8], caps: &[u16], places: &[u16]) -> io::Result<()> {
+fn say_check<W: Write>(out: &mut W, name: &str, caps: &[u16], places: &[u16]) -> io::Result<()> {
     let answer = tables::check_table(caps, places);
     say_answer(out, name, answer)?;
-    out.write_all(b"\n")
+    writeln!(out)
 }
 
 fn say_kind<W: Write>(out: &mut W, kind: Kind) -> io::Result<()> {
     match kind {
-        Kind::User => out.write_all(b" user slot"),
-        Kind::Spare => out.write_all(b" spare"),
-        Kind::None => out.write_all(b" none"),
+        Kind::User => write!(out, " user slot"),
+        Kind::Spare => write!(out, " spare"),
+        Kind::None => write!(out, " none"),
     }
 }
 
 fn say_state<W: Write>(out: &mut W, state: State) -> io::Result<()> {
     match state {
-        State::Free => out.write_all(b" free\n"),
-        State::Settled => out.write_all(b" settled\n"),
-        State::Unsettled => out.write_all(b" unsettled\n"),
+        State::Free => writeln!(out, " free"),
+        State::Settled => writeln!(out, " settled"),
+        State::Unsettled => writeln!(out, " unsettled"),
         State::Away(p) => writeln!(out, " away to {p}"),
-        State::None => out.write_all(b" none\n"),
+        State::None => writeln!(out, " none"),
     }
 }
 
 fn say_slot<W: Write>(
     out: &mut W,
-    name: &[u8],
+    name: &str,
     caps: &[u16],
     places: &[u16],
     g: usize,
@@ -47,41 +47,41 @@ fn say_slot<W: Write>(
 fn full_house<W: Write>(out: &mut W) -> io::Result<()> {
     let mut caps = [63u16; Job::MAX_RACKS];
     let places = [Job::FREE; Job::MAX_SLOTS];
-    say_check(out, b"64 racks of 63", &caps, &places)?;
+    say_check(out, "64 racks of 63", &caps, &places)?;
     caps[7] = 64;
-    say_check(out, b"one of them 64", &caps, &places)?;
-    say_check(out, b"one rack of 1,023", &[1023], &places[..1024])?;
-    say_check(out, b"one rack of 1,024", &[1024], &places[..1025])?;
-    say_check(out, b"four racks of 1,008", &[1008; 4], &places[..4036])?;
-    say_check(out, b"four racks of 1,023", &[1023; 4], &places)?;
-    say_check(out, b"one rack of none", &[0], &places[..1])?;
-    say_check(out, b"64 racks of none", &[0u16; 64], &places[..64])?;
-    say_check(out, b"4,096 racks", &[0u16; 4096], &places)
+    say_check(out, "one of them 64", &caps, &places)?;
+    say_check(out, "one rack of 1,023", &[1023], &places[..1024])?;
+    say_check(out, "one rack of 1,024", &[1024], &places[..1025])?;
+    say_check(out, "four racks of 1,008", &[1008; 4], &places[..4036])?;
+    say_check(out, "four racks of 1,023", &[1023; 4], &places)?;
+    say_check(out, "one rack of none", &[0], &places[..1])?;
+    say_check(out, "64 racks of none", &[0u16; 64], &places[..64])?;
+    say_check(out, "4,096 racks", &[0u16; 4096], &places)
 }
 
 fn refusals<W: Write>(out: &mut W) -> io::Result<()> {
     let two = [1u16, 1];
     let places = [Job::FREE; 130];
-    say_check(out, b"no racks", &[], &places[..0])?;
-    say_check(out, b"65 racks", &[1u16; 65], &places)?;
-    say_check(out, b"places too short", &two, &places[..3])?;
-    say_check(out, b"places too long", &two, &places[..5])?;
-    say_check(out, b"a spare named", &two, &[3, Job::FREE, 0, Job::FREE])?;
-    say_check(out, b"no slot named", &two, &[4, Job::FREE, 0, Job::FREE])?;
+    say_check(out, "no racks", &[], &places[..0])?;
+    say_check(out, "65 racks", &[1u16; 65], &places)?;
+    say_check(out, "places too short", &two, &places[..3])?;
+    say_check(out, "places too long", &two, &places[..5])?;
+    say_check(out, "a spare named", &two, &[3, Job::FREE, 0, Job::FREE])?;
+    say_check(out, "no slot named", &two, &[4, Job::FREE, 0, Job::FREE])?;
     say_check(
         out,
-        b"the hand in a table",
+        "the hand in a table",
         &two,
         &[Job::HAND, Job::FREE, 0, Job::FREE],
     )?;
     say_check(
         out,
-        b"a slot named twice",
+        "a slot named twice",
         &two,
         &[0, Job::FREE, 0, Job::FREE],
     )?;
-    say_check(out, b"5 behind a 6", &two, &[0, 0, Job::FREE, 1])?;
-    say_check(out, b"65 racks and one too large", &[1024u16; 65], &places)
+    say_check(out, "5 behind a 6", &two, &[0, 0, Job::FREE, 1])?;
+    say_check(out, "65 racks and one too large", &[1024u16; 65], &places)
 }
 
 // Several bad and several doubled entries: the lowest bad one, and the lowest that repeats an earlier one.
@@ -89,25 +89,25 @@ fn lowest_places<W: Write>(out: &mut W) -> io::Result<()> {
     let caps = [2u16, 2, 1];
     say_check(
         out,
-        b"three bad entries",
+        "three bad entries",
         &caps,
         &[0, Job::FREE, 7, 5, 6, Job::FREE, 8, Job::FREE],
     )?;
     say_check(
         out,
-        b"three that name slot 3",
+        "three that name slot 3",
         &caps,
         &[Job::FREE, 3, 1, Job::FREE, 3, Job::FREE, 3, Job::FREE],
     )?;
     say_check(
         out,
-        b"two slots named twice",
+        "two slots named twice",
         &caps,
         &[6, 0, 4, 4, Job::FREE, Job::FREE, Job::FREE, 6],
     )?;
     say_check(
         out,
-        b"the last entry bad",
+        "the last entry bad",
         &caps,
         &[3, 4, Job::FREE, 0, 6, Job::FREE, 1, 2],
     )
@@ -118,21 +118,21 @@ fn questions<W: Write>(out: &mut W) -> io::Result<()> {
     let settled = [0u16, Job::FREE, 1];
     let caps = [2u16, 2, 1];
     let places = [3u16, 4, Job::FREE, 0, 6, Job::FREE, 1, Job::FREE];
-    say_slot(out, b"slot 0 of case 1", &caps, &places, 0)?;
-    say_slot(out, b"slot 2 of case 1", &caps, &places, 2)?;
-    say_slot(out, b"slot 4 of case 1", &caps, &places, 4)?;
-    say_slot(out, b"slot 8 of case 1", &caps, &places, 8)?;
+    say_slot(out, "slot 0 of case 1", &caps, &places, 0)?;
+    say_slot(out, "slot 2 of case 1", &caps, &places, 2)?;
+    say_slot(out, "slot 4 of case 1", &caps, &places, 4)?;
+    say_slot(out, "slot 8 of case 1", &caps, &places, 8)?;
     say_slot(
         out,
-        b"the highest number as a slot",
+        "the highest number as a slot",
         &caps,
         &places,
-        18446744073709551615,
+        usize::MAX,
     )?;
-    say_slot(out, b"slot 0, settled", &one, &settled, 0)?;
-    say_slot(out, b"a card in a spare", &one, &settled, 2)?;
-    say_slot(out, b"a slot of a bad table", &one, &[2, Job::FREE, 1], 0)?;
-    say_slot(out, b"a slot of no racks", &[], &places, 0)
+    say_slot(out, "slot 0, settled", &one, &settled, 0)?;
+    say_slot(out, "a card in a spare", &one, &settled, 2)?;
+    say_slot(out, "a slot of a bad table", &one, &[2, Job::FREE, 1], 0)?;
+    say_slot(out, "a slot of no racks", &[], &places, 0)
 }
 
 fn main(rt: HostRuntime) -> io::Result<()> {

@@ -1,5 +1,5 @@
 // What is printed.
-use answers::Answer;
+use jobfile::JobFile;
 use numerals::Numeral;
 use std::io;
 use std::io::Write;
@@ -13,23 +13,19 @@ fn say_numeral<W: Write>(out: &mut W, n: Numeral) -> io::Result<()> {
 }
 
 pub fn say_numerals<W: Write>(out: &mut W, first: Numeral, second: Numeral) -> io::Result<()> {
-    out.write_all(b"numerals")?;
+    write!(out, "numerals")?;
     say_numeral(out, first)?;
     say_numeral(out, second)?;
-    out.write_all(b", ")
+    write!(out, ", ")
 }
 
 // N, B, S, where the card bytes begin, and these.
-pub fn say_job<W: Write>(
-    out: &mut W,
-    answer: Answer,
-    racks: usize,
-    bytes: usize,
-    slots: usize,
-    start: usize,
-    cards: &[u8],
-) -> io::Result<()> {
-    saying::parts::say_answer(out, b"job", answer)?;
-    write!(out, " N {racks} B {bytes} S {slots} start {start}")?;
-    saying::parts::say_cards(out, cards)
+pub fn say_job<W: Write>(out: &mut W, job: JobFile) -> io::Result<()> {
+    saying::parts::say_answer(out, "job", job.answer)?;
+    write!(
+        out,
+        " N {} B {} S {} start {}",
+        job.racks, job.bytes, job.slots, job.start
+    )?;
+    saying::parts::say_cards(out, job.cards)
 }

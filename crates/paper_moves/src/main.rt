@@ -2,94 +2,86 @@
 #![tactic(auto)]
 
 use racks::Job;
-use saying::parts::say_left;
+use saying::parts::Lent;
 use std::io;
 use std::io::Write;
 
 fn say_move<W: Write>(
     out: &mut W,
-    name: &[u8],
-    caps: &[u16],
-    b: usize,
-    places: &mut [u16],
-    cards: &mut [u8],
+    name: &str,
+    lent: &mut Lent,
     from: usize,
     to: usize,
 ) -> io::Result<()> {
-    let answer = mover::one_move(caps, b, places, cards, from, to);
-    say_left(out, name, answer, places, cards)
+    let answer = mover::one_move(lent.caps, lent.b, lent.places, lent.cards, from, to);
+    lent.say_left(out, name, answer)
 }
 
-// A move of two racks of one, each card a byte.
-fn move_two<W: Write>(
-    out: &mut W,
-    name: &[u8],
-    places: &mut [u16],
-    cards: &mut [u8],
-    from: usize,
-    to: usize,
-) -> io::Result<()> {
-    let caps = [1u16, 1];
-    say_move(out, name, &caps, 1, places, cards, from, to)
+// Two racks of one, each card a byte.
+fn two<'a>(places: &'a mut [u16], cards: &'a mut [u8]) -> Lent<'a> {
+    Lent {
+        caps: &[1, 1],
+        b: 1,
+        places,
+        cards,
+    }
 }
 
 // Case 6, what a single move is refused with.
-fn refused_moves<W: Write>(out: &mut W, places: &mut [u16], cards: &mut [u8]) -> io::Result<()> {
-    move_two(out, b"case 6, 0 to 0", places, cards, 0, 0)?;
-    move_two(out, b"case 6, 1 to 3", places, cards, 1, 3)?;
-    move_two(out, b"case 6, 0 to 4", places, cards, 0, 4)?;
-    move_two(out, b"case 6, 0 to 2", places, cards, 0, 2)
+fn refused_moves<W: Write>(out: &mut W, lent: &mut Lent) -> io::Result<()> {
+    say_move(out, "case 6, 0 to 0", lent, 0, 0)?;
+    say_move(out, "case 6, 1 to 3", lent, 1, 3)?;
+    say_move(out, "case 6, 0 to 4", lent, 0, 4)?;
+    say_move(out, "case 6, 0 to 2", lent, 0, 2)
 }
 
 // Two cards that are equal in every byte, over old bytes.
-fn moves_made<W: Write>(out: &mut W, places: &mut [u16], cards: &mut [u8]) -> io::Result<()> {
-    move_two(out, b"0 to 3", places, cards, 0, 3)?;
-    move_two(out, b"2 to 0, which is free now", places, cards, 2, 0)?;
-    move_two(out, b"again", places, cards, 2, 0)
+fn moves_made<W: Write>(out: &mut W, lent: &mut Lent) -> io::Result<()> {
+    say_move(out, "0 to 3", lent, 0, 3)?;
+    say_move(out, "2 to 0, which is free now", lent, 2, 0)?;
+    say_move(out, "again", lent, 2, 0)
 }
 
 fn moves<W: Write>(out: &mut W) -> io::Result<()> {
-    let mut places = [2u16, Job::FREE, 0, Job::FREE];
-    let mut cards = [65u8, 9, 65, 9];
-    refused_moves(out, &mut places, &mut cards)?;
-    moves_made(out, &mut places, &mut cards)
+    let mut places = [2, Job::FREE, 0, Job::FREE];
+    let mut cards = [65, 9, 65, 9];
+    let mut lent = two(&mut places, &mut cards);
+    refused_moves(out, &mut lent)?;
+    moves_made(out, &mut lent)
 }
 
 // Case 6 on case 5, and cards too long.
 fn other_moves<W: Write>(out: &mut W) -> io::Result<()> {
-    let mut case5 = [2u16, 0, Job::FREE, Job::FREE];
-    let mut fresh = [2u16, Job::FREE, 0, Job::FREE];
-    move_two(
+    let mut case_5 = [2, 0, Job::FREE, Job::FREE];
+    let mut fresh = [2, Job::FREE, 0, Job::FREE];
+    let mut twice = [2, Job::FREE, 2, Job::FREE];
+    let mut cards = [65, 9, 65, 9];
+    let mut long = [0; 5];
+    say_move(
         out,
-        b"case 6, case 5, 1 to 2",
-        &mut case5,
-        &mut [65, 9, 65, 9],
+        "case 6, case 5, 1 to 2",
+        &mut two(&mut case_5, &mut cards),
         1,
         2,
     )?;
-    move_two(out, b"cards too long", &mut fresh, &mut [0; 5], 3, 0)?;
-    move_two(
+    say_move(out, "cards too long", &mut two(&mut fresh, &mut long), 3, 0)?;
+    say_move(
         out,
-        b"a slot named twice, and no slot 9",
-        &mut [2, Job::FREE, 2, Job::FREE],
-        &mut [65, 9, 65, 9],
+        "a slot named twice, and no slot 9",
+        &mut two(&mut twice, &mut cards),
         9,
         0,
     )
 }
 
 fn size_first<W: Write>(out: &mut W) -> io::Result<()> {
-    let mut places = [2u16, Job::FREE, 0, Job::FREE];
-    say_move(
-        out,
-        b"B 0 before a bad rack",
-        &[1024],
-        0,
-        &mut places,
-        &mut [1; 4],
-        0,
-        0,
-    )
+    let mut lent = Lent {
+        caps: &[1024],
+        b: 0,
+        places: &mut [2, Job::FREE, 0, Job::FREE],
+        cards: &mut [1; 4],
+    };
+    say_move(out, "B 0 before a bad rack", &mut lent, 0, 0)
 }
 
 fn main(rt: HostRuntime) -> io::Result<()> {

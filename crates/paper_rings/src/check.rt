@@ -4,13 +4,14 @@ ghost use Rattle.std.specs.Prelude.{◌<◌, ◌≤◌};
 use crate::deal;
 use deal::Deal;
 use racks::Job;
+use saying::parts::Lent;
 
 // The entry of slot `g` after the run.
 fn settled(deal: Deal, g: usize) -> u16 {
     if Job::MAX_SLOTS <= g {
         return Job::FREE;
     }
-    if deal::destination(deal, g) == Job::FREE {
+    if deal.destination(g) == Job::FREE {
         return Job::FREE;
     }
     g as u16
@@ -37,7 +38,8 @@ fn slot_wrong(own: u16, entry: u16, card: &[u8]) -> usize
 }
 
 // Every slot is wrong where the cards are too short.
-pub fn wrong_slots(deal: Deal, b: usize, places: &[u16], cards: &[u8]) -> usize {
+pub fn wrong_slots(deal: Deal, job: &Lent) -> usize {
+    let (b, places, cards) = (job.b, &*job.places, &*job.cards);
     let mut wrong: usize = 0;
     let mut at: usize = 0;
     for (g, entry) in places.iter().enumerate() {

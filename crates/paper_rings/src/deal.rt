@@ -85,21 +85,6 @@ fn swapped(g: u16) -> u16
     g - 1
 }
 
-// Where the card in slot `g` goes; the spares are free.
-pub fn destination(deal: Deal, g: usize) -> u16 {
-    if Job::MAX_SLOTS <= g {
-        return Job::FREE;
-    }
-    let s = g as u16;
-    match deal {
-        Deal::Even => even(s),
-        Deal::Uneven => uneven(s),
-        Deal::Transposed => transposed(s),
-        Deal::Spread => spread(s),
-        Deal::Swapped => swapped(s),
-    }
-}
-
 // Byte `k` of the card bound for slot `d`; zero where there is no card.
 pub fn byte_of(d: u16, k: usize) -> u8 {
     if d == Job::FREE {
@@ -111,12 +96,6 @@ pub fn byte_of(d: u16, k: usize) -> u8 {
     ((d as usize + k % 251) % 251) as u8
 }
 
-pub fn deal_places(deal: Deal, places: &mut [u16]) {
-    for (g, entry) in places.iter_mut().enumerate() {
-        *entry = destination(deal, g);
-    }
-}
-
 // What a byte of a slot is at the start: old bytes where the slot is free.
 fn dealt_byte(d: u16, k: usize) -> u8 {
     if d == Job::FREE {
@@ -125,12 +104,34 @@ fn dealt_byte(d: u16, k: usize) -> u8 {
     byte_of(d, k)
 }
 
-// The card in each slot has the bytes of its destination.
-pub fn deal_cards(deal: Deal, b: usize, cards: &mut [u8])
-    requires { 0 < b }
-{
-    for (at, x) in cards.iter_mut().enumerate() {
-        let d = destination(deal, at / b);
-        *x = dealt_byte(d, at % b);
+impl Deal {
+    // Where the card in slot `g` goes; the spares are free.
+    pub fn destination(self, g: usize) -> u16 {
+        if Job::MAX_SLOTS <= g {
+            return Job::FREE;
+        }
+        let s = g as u16;
+        match self {
+            Deal::Even => even(s),
+            Deal::Uneven => uneven(s),
+            Deal::Transposed => transposed(s),
+            Deal::Spread => spread(s),
+            Deal::Swapped => swapped(s),
+        }
+    }
+
+    pub fn places(self, places: &mut [u16]) {
+        for (g, entry) in places.iter_mut().enumerate() {
+            *entry = self.destination(g);
+        }
+    }
+
+    // The card in each slot has the bytes of its destination.
+    pub fn cards(self, b: usize, cards: &mut [u8])
+        requires { 0 < b }
+    {
+        for (at, x) in cards.iter_mut().enumerate() {
+            *x = dealt_byte(self.destination(at / b), at % b);
+        }
     }
 }

@@ -4,6 +4,7 @@
 ghost use Rattle.std.specs.Prelude.{◌<◌};
 
 use deal::Deal;
+use saying::parts::Lent;
 use std::io;
 use std::io::Write;
 
@@ -12,151 +13,126 @@ mod deal;
 mod say;
 
 // Runs a job that was dealt, and says the answer and how many slots were wrong before and after.
-fn finish<W: Write>(
-    out: &mut W,
-    name: &[u8],
-    caps: &[u16],
-    b: usize,
-    deal: Deal,
-    places: &mut [u16],
-    cards: &mut [u8],
-) -> io::Result<()> {
-    let before = check::wrong_slots(deal, b, places, cards);
-    let answer = runner::whole_run(caps, b, places, cards);
+fn finish<W: Write>(out: &mut W, name: &str, deal: Deal, job: &mut Lent) -> io::Result<()> {
+    let before = check::wrong_slots(deal, job);
+    let answer = runner::whole_run(job.caps, job.b, job.places, job.cards);
     saying::parts::say_answer(out, name, answer)?;
-    let after = check::wrong_slots(deal, b, places, cards);
+    let after = check::wrong_slots(deal, job);
     say::say_wrong(out, before, after)
 }
 
-fn run<W: Write>(
-    out: &mut W,
-    name: &[u8],
-    caps: &[u16],
-    b: usize,
-    deal: Deal,
-    places: &mut [u16],
-    cards: &mut [u8],
-) -> io::Result<()>
-    requires { 0 < b }
+// Deals a job and runs it.
+fn run<W: Write>(out: &mut W, name: &str, deal: Deal, job: &mut Lent) -> io::Result<()>
+    requires { 0 < job.old.b }
 {
-    deal::deal_places(deal, places);
-    deal::deal_cards(deal, b, cards);
-    finish(out, name, caps, b, deal, places, cards)
+    deal.places(job.places);
+    deal.cards(job.b, job.cards);
+    finish(out, name, deal, job)
 }
 
 fn even_ring<W: Write>(out: &mut W) -> io::Result<()> {
-    let mut places = [0u16; 4036];
-    let mut cards = [0u8; 4036];
-    run(
-        out,
-        b"a full ring of 1,008 1,008 1,008 1,008, B 1",
-        &[1008; 4],
-        1,
-        Deal::Even,
-        &mut places,
-        &mut cards,
-    )
+    let name = "a full ring of 1,008 1,008 1,008 1,008, B 1";
+    let mut job = Lent {
+        caps: &[1008; 4],
+        b: 1,
+        places: &mut [0; 4036],
+        cards: &mut [0; 4036],
+    };
+    run(out, name, Deal::Even, &mut job)
 }
 
 fn even_ring_wide<W: Write>(out: &mut W) -> io::Result<()> {
-    let mut places = [0u16; 4036];
-    let mut cards = [0u8; 64576];
-    run(
-        out,
-        b"a full ring of 1,008 1,008 1,008 1,008, B 16",
-        &[1008; 4],
-        16,
-        Deal::Even,
-        &mut places,
-        &mut cards,
-    )
+    let name = "a full ring of 1,008 1,008 1,008 1,008, B 16";
+    let mut job = Lent {
+        caps: &[1008; 4],
+        b: 16,
+        places: &mut [0; 4036],
+        cards: &mut [0; 64576],
+    };
+    run(out, name, Deal::Even, &mut job)
 }
 
 fn uneven_ring<W: Write>(out: &mut W) -> io::Result<()> {
-    let mut places = [0u16; 4036];
-    let mut cards = [0u8; 4036];
-    run(
-        out,
-        b"a full ring of 1,023 1,023 1,023 963, B 1",
-        &[1023, 1023, 1023, 963],
-        1,
-        Deal::Uneven,
-        &mut places,
-        &mut cards,
-    )
+    let name = "a full ring of 1,023 1,023 1,023 963, B 1";
+    let mut job = Lent {
+        caps: &[1023, 1023, 1023, 963],
+        b: 1,
+        places: &mut [0; 4036],
+        cards: &mut [0; 4036],
+    };
+    run(out, name, Deal::Uneven, &mut job)
 }
 
 fn uneven_ring_wide<W: Write>(out: &mut W) -> io::Result<()> {
-    let mut places = [0u16; 4036];
-    let mut cards = [0u8; 64576];
-    run(
-        out,
-        b"a full ring of 1,023 1,023 1,023 963, B 16",
-        &[1023, 1023, 1023, 963],
-        16,
-        Deal::Uneven,
-        &mut places,
-        &mut cards,
-    )
+    let name = "a full ring of 1,023 1,023 1,023 963, B 16";
+    let mut job = Lent {
+        caps: &[1023, 1023, 1023, 963],
+        b: 16,
+        places: &mut [0; 4036],
+        cards: &mut [0; 64576],
+    };
+    run(out, name, Deal::Uneven, &mut job)
 }
 
 fn transposed<W: Write>(out: &mut W) -> io::Result<()> {
-    let mut places = [0u16; 4096];
-    let mut cards = [0u8; 4096];
+    let mut job = Lent {
+        caps: &[63; 64],
+        b: 1,
+        places: &mut [0; 4096],
+        cards: &mut [0; 4096],
+    };
     run(
         out,
-        b"64 racks of 63, transposed",
-        &[63; 64],
-        1,
+        "64 racks of 63, transposed",
         Deal::Transposed,
-        &mut places,
-        &mut cards,
+        &mut job,
     )
 }
 
 fn spread<W: Write>(out: &mut W) -> io::Result<()> {
-    let mut places = [0u16; 4096];
-    let mut cards = [0u8; 65536];
-    run(
-        out,
-        b"64 racks of 63, spread over all others, B 16",
-        &[63; 64],
-        16,
-        Deal::Spread,
-        &mut places,
-        &mut cards,
-    )
+    let name = "64 racks of 63, spread over all others, B 16";
+    let mut job = Lent {
+        caps: &[63; 64],
+        b: 16,
+        places: &mut [0; 4096],
+        cards: &mut [0; 65536],
+    };
+    run(out, name, Deal::Spread, &mut job)
 }
 
 fn swapped<W: Write>(out: &mut W) -> io::Result<()> {
-    let mut places = [0u16; 1024];
-    let mut cards = [0u8; 1024];
+    let mut job = Lent {
+        caps: &[1023],
+        b: 1,
+        places: &mut [0; 1024],
+        cards: &mut [0; 1024],
+    };
     run(
         out,
-        b"one rack of 1,023, all two-cycles",
-        &[1023],
-        1,
+        "one rack of 1,023, all two-cycles",
         Deal::Swapped,
-        &mut places,
-        &mut cards,
+        &mut job,
     )
 }
 
 // A card with a byte that is not its own comes out wrong, and no other.
 fn spoiled<W: Write>(out: &mut W) -> io::Result<()> {
-    let mut places = [0u16; 1024];
-    let mut cards = [0u8; 1024];
-    deal::deal_places(Deal::Swapped, &mut places);
-    deal::deal_cards(Deal::Swapped, 1, &mut cards);
+    let mut places = [0; 1024];
+    let mut cards = [0; 1024];
+    Deal::Swapped.places(&mut places);
+    Deal::Swapped.cards(1, &mut cards);
     cards[500] = 255;
+    let mut job = Lent {
+        caps: &[1023],
+        b: 1,
+        places: &mut places,
+        cards: &mut cards,
+    };
     finish(
         out,
-        b"the same with one byte changed",
-        &[1023],
-        1,
+        "the same with one byte changed",
         Deal::Swapped,
-        &mut places,
-        &mut cards,
+        &mut job,
     )
 }
 

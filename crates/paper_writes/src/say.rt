@@ -4,7 +4,7 @@ use std::io;
 use std::io::Write;
 
 // The number, the counts and the length.
-pub fn say_size<W: Write>(to: &mut W, name: &[u8], found: SizeAnswer) -> io::Result<()> {
+pub fn say_size<W: Write>(to: &mut W, name: &str, found: SizeAnswer) -> io::Result<()> {
     saying::parts::say_answer(to, name, found.answer)?;
     let size = found.size;
     write!(to, " length {size}")
@@ -12,14 +12,14 @@ pub fn say_size<W: Write>(to: &mut W, name: &[u8], found: SizeAnswer) -> io::Res
 
 // The bytes of a buffer.
 pub fn say_file<W: Write>(to: &mut W, out: &[u8]) -> io::Result<()> {
-    to.write_all(b" buffer")?;
+    write!(to, " buffer")?;
     saying::parts::say_hexes(to, out)
 }
 
 // How a comparison came out.
 pub fn say_same<W: Write>(to: &mut W, same: bool) -> io::Result<()> {
     if same {
-        return to.write_all(b", read back and written again: the same\n");
+        return writeln!(to, ", read back and written again: the same");
     }
-    to.write_all(b", read back and written again: DIFFERENT\n")
+    writeln!(to, ", read back and written again: DIFFERENT")
 }

@@ -1,13 +1,13 @@
 // What the phase plan puts together.
 ghost use Rattle.std.specs.Prelude.{◌≡◌, ◌*◌, ◌≤◌, length};
-ghost use Rattle.answers.specs.Answers.{listed_of};
-ghost use Rattle.racks.specs.Job.{racks_of, Sound, Fit};
+ghost use Rattle.answers.specs.Answers.{answered, listed_of};
+ghost use Rattle.racks.specs.Job.{racks_of, Sound};
 ghost use Rattle.racks.specs.parts.Legal.{Legal};
 ghost use Rattle.plans.specs.Plan.{plan};
 ghost use Rattle.planner.specs.parts.Targets.{Covers, PairsPut};
 ghost use Rattle.planner.specs.parts.Planned.{planned_by};
 
-use answers::{Answer, Tally};
+use answers::{Refusal, Tally};
 use racks::Job;
 use spans::parts::Range;
 
@@ -58,19 +58,15 @@ pub fn write_plan(job: Job, places: &[u16], lent: &mut [u16], most: usize) -> us
 }
 
 // The phase plan, by the job.
-pub fn plan_job(job: Job, places: &[u16], lent: &mut [u16]) -> Answer
-    requires { Fit job }
-    ensures { listed_of result lent.new ≡ planned_by job places.now lent.old }
+pub fn plan_job(job: Job, places: &[u16], lent: &mut [u16]) -> Result<Tally, Refusal>
+    requires { Sound job }
+    ensures { listed_of (answered result) lent.new ≡ planned_by job places.now lent.old }
 {
-    let refusal = tables::parts::places_refusal(job, places);
-    if refusal.number != 0 {
-        return Answer::refused(refusal);
-    }
+    tables::parts::check_places(job, places)?;
     let most = most_pairs(job, places, lent.len());
     if lent.len() < 2 * most {
-        return Answer::of(13);
+        return Err(Refusal::TooShort);
     }
     let written = write_plan(job, places, lent, most);
-    let tally = Tally::of_moves(written);
-    Answer::done(tally)
+    Ok(Tally::of_moves(written))
 }

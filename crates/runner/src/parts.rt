@@ -1,15 +1,16 @@
 // What the whole run puts together: phases until nothing is awaited, then the shuffle.
 ghost use Rattle.std.specs.Prelude.{◌≡◌, ◌*◌, ◌≤◌, length};
+ghost use Rattle.answers.specs.Answers.{answered};
 ghost use Rattle.racks.specs.Limits.{BYTES};
 ghost use Rattle.racks.specs.Racks.{slots};
 ghost use Rattle.racks.specs.parts.Legal.{Spared};
-ghost use Rattle.racks.specs.Job.{racks_of, FitSpared};
+ghost use Rattle.racks.specs.Job.{racks_of, SoundSpared};
 ghost use Rattle.tables.specs.parts.Tables.{Open};
 ghost use Rattle.moves.specs.Moves.{held, outcome_of};
 ghost use Rattle.runs.specs.parts.Ran.{Ran};
 ghost use Rattle.runner.specs.parts.Ran.{ran_by};
 
-use answers::{Answer, Tally};
+use answers::{Refusal, Tally};
 use factors::parts::walks;
 use racks::Job;
 
@@ -31,15 +32,16 @@ pub fn run_cards(
 }
 
 // The whole run, by the job.
-pub fn run_job(job: Job, b: usize, places: &mut [u16], cards: &mut [u8]) -> Answer
-    requires { FitSpared job }
-    ensures { outcome_of result places.new cards.new ≡ ran_by job b (held places.old cards.old) }
+pub fn run_job(
+    job: Job,
+    b: usize,
+    places: &mut [u16],
+    cards: &mut [u8],
+) -> Result<Tally, Refusal>
+    requires { SoundSpared job × (b ≤ BYTES) }
+    ensures { outcome_of (answered result) places.new cards.new ≡ ran_by job b (held places.old cards.old) }
 {
     let mut racking = [0u8; Job::MAX_SLOTS];
-    let refusal = tables::parts::cards_refusal(job, b, places, cards, &mut racking);
-    if refusal.number != 0 {
-        return Answer::refused(refusal);
-    }
-    let tally = run_cards(job, b, places, cards, &mut racking);
-    Answer::done(tally)
+    tables::parts::check_cards(job, b, places, cards, &mut racking)?;
+    Ok(run_cards(job, b, places, cards, &mut racking))
 }

@@ -1,17 +1,17 @@
 -- The phases that a run's log has are those that were made, and can be read; their lines one behind another. Assumes nothing.
 use mathlib.Core.Path.{◌≡◌, refl, ap, sym, subst, ◌∙◌}
 use mathlib.Core.List.{List, [], ◌∷◌, ◌++◌, append_assoc, append-nil}
-use Prim.Native.Nat.{ℕ, zero, suc, ◌+◌, ◌*◌, ◌≤◌, ◌<◌}
+use Prim.Native.Nat.{ℕ, zero, suc, ◌+◌, ◌-◌, ◌*◌, ◌≤◌, ◌<◌}
 use native.Mathlib.Omega.{arith}
 use native.Mathlib.Numerals.{add-one}
 use lib.ListN.{length, get_or, take, drop, length-append, drop_of_length-le}
 use lib.Seq.{take-suc, drop-cons, split_at}
 use Rattle.counting.specs.Lists.{Pair, tabulate, join}
 use Rattle.counting.proofs.Lists.{join-append, get_d_tabulate, length-tabulate, tabulate-is}
-use Rattle.carrying.proofs.Flat.{pairs-between}
+use Rattle.carrying.proofs.Flat.{pairs-part, pairs-between}
 use Rattle.texts.specs.Lines.{phase_line, phase_lines}
 use Rattle.texts.specs.parts.Writing.{Reaches, Wrote}
-use Rattle.carrying.specs.parts.Carrying.{pairs_in}
+use Rattle.carrying.specs.parts.Carrying.{unflat}
 use Rattle.gathering.specs.parts.Gathered.{ENDS, LOG, Logged}
 use Rattle.runtexts.specs.parts.Logs.{made_before, phase_in, phases_in, Readable}
 use Rattle.texts.proofs.Writing.{Left, room-first, left-first, left-room, left-next, left-done}
@@ -105,6 +105,7 @@ module _ (log : List ℕ) (j : ℕ) where
   unfolding made_before
   made-next = refl
 
-  pub phase-here : (low high : ℕ) → low ≡ 2 * made_before log j → high ≡ 2 * get_or log (ENDS + j) 0 → pairs_in log low high ≡ phase_in log j
+  pub phase-here : (low high : ℕ) → made_before log j ≤ made_before log (suc j) → low ≡ 2 * made_before log j → high ≡ 2 * get_or log (ENDS + j) 0
+      → unflat (take (high - low) (drop low log)) ≡ phase_in log j
   unfolding phase_in
-  phase-here low high el eh = rw (el, eh, made-next)
+  phase-here low high up el eh = pairs-part log low high (omega (arith, made-next)) ∙ rw (el, eh, made-next)

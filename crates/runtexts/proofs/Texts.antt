@@ -3,7 +3,8 @@ use mathlib.Core.Path.{◌≡◌, ap, sym, ◌∙◌}
 use mathlib.Core.List.{List, ◌++◌}
 use Prim.Native.Nat.{ℕ, ◌*◌, ◌≤◌}
 use native.Mathlib.Omega.{arith}
-use lib.ListN.{length}
+use native.Mathlib.Nat.{sub-zero}
+use lib.ListN.{length, take}
 use Rattle.counting.proofs.Lists.{length-tabulate}
 use Rattle.counting.proofs.Stores.{length-flat}
 use Rattle.answers.specs.declared.Tally.{Tally}
@@ -15,8 +16,8 @@ use Rattle.racks.proofs.Away.{aways-few}
 use Rattle.tables.specs.parts.Tables.{Open}
 use Rattle.moves.specs.Moves.{Held, held}
 use Rattle.moves.specs.Phases.{phases}
-use Rattle.carrying.specs.parts.Carrying.{pairs_in}
-use Rattle.carrying.proofs.Flat.{pairs-all}
+use Rattle.carrying.specs.parts.Carrying.{unflat}
+use Rattle.carrying.proofs.Flat.{pairs-part, pairs-all}
 use Rattle.moves.proofs.Phases.{phases-pairs, phases-moves}
 use Rattle.moves.proofs.FirstFit.{first-fit}
 use Rattle.factors.specs.Copies.{copy_list}
@@ -46,9 +47,9 @@ module _ (places list after : List ℕ) (fits : 2 * length (copy_list places) �
   copies-long = ap length e ∙ length-put-copies list 0 (copy_list places)
 
   -- its copies, as they stand there
-  pub copies-read : (n : ℕ) → n ≡ length (copy_list places) → pairs_in after 0 (2 * n) ≡ copy_list places
+  pub copies-read : (n : ℕ) → n ≡ length (copy_list places) → unflat (take (2 * n) after) ≡ copy_list places
   unfolding put_copies
-  copies-read n en = pairs-all after list 0 (2 * n) (copy_list places) e (omega (arith, length-flat (copy_list places))) (omega arith)
+  copies-read n en = (rw sub-zero at (pairs-part after 0 (2 * n) (omega arith))) ∙ pairs-all after list 0 (2 * n) (copy_list places) e (omega (arith, length-flat (copy_list places))) (omega arith)
 
 -- a legal job, and room for the text of its run
 pub record Runs (racks : List Rack) (b : ℕ) (h : Held) (out : List ℕ) : Type 0 where

@@ -1,8 +1,8 @@
 // What the shuffle puts together: the factors brought, the new table, free slots zeroed.
 ghost use Rattle.std.specs.Prelude.{◌≡◌, ◌*◌, ◌≤◌, ◌<◌, length};
-ghost use Rattle.answers.specs.Answers.{no_counts};
+ghost use Rattle.answers.specs.Answers.{no_counts, answered};
 ghost use Rattle.racks.specs.Limits.{BYTES, SLOTS, SOURCES};
-ghost use Rattle.racks.specs.Job.{Fit};
+ghost use Rattle.racks.specs.Job.{Sound};
 ghost use Rattle.moves.specs.Moves.{held, outcome_of};
 ghost use Rattle.factors.specs.parts.Chains.{Chained};
 ghost use Rattle.factors.specs.parts.Walks.{COUNTED, NoSources, Sources, Unmarked};
@@ -10,7 +10,7 @@ ghost use Rattle.shuffle.specs.parts.Shuffled.{AllSettled, Shuffled};
 ghost use Rattle.shuffler.specs.parts.Settled.{entry_by, SlotSettled, TableSettled, AllBelow, Zeroed};
 ghost use Rattle.shuffler.specs.parts.Shuffled.{shuffled_by};
 
-use answers::{Answer, Tally};
+use answers::{Refusal, Tally};
 use racks::Job;
 
 // Slot d's entry at the end: it names itself where a card was bound for it, else it is free.
@@ -103,18 +103,19 @@ fn settle_alone(
 }
 
 // The shuffle, by the job. Once nothing is away, the racking serves as marks.
-pub fn shuffle_job(job: Job, b: usize, places: &mut [u16], cards: &mut [u8]) -> Answer
-    requires { Fit job }
-    ensures { outcome_of result places.new cards.new ≡ shuffled_by job b (held places.old cards.old) }
+pub fn shuffle_job(
+    job: Job,
+    b: usize,
+    places: &mut [u16],
+    cards: &mut [u8],
+) -> Result<Tally, Refusal>
+    requires { Sound job × (b ≤ BYTES) }
+    ensures { outcome_of (answered result) places.new cards.new ≡ shuffled_by job b (held places.old cards.old) }
 {
     let mut racking = [0u8; Job::MAX_SLOTS];
-    let refusal = tables::parts::cards_refusal(job, b, places, cards, &mut racking);
-    if refusal.number != 0 {
-        return Answer::refused(refusal);
-    }
+    tables::parts::check_cards(job, b, places, cards, &mut racking)?;
     if copies::parts::some_away(&racking, places) {
-        return Answer::of(12);
+        return Err(Refusal::SomeAway);
     }
-    let tally = settle_alone(b, places, cards, &mut racking);
-    Answer::done(tally)
+    Ok(settle_alone(b, places, cards, &mut racking))
 }

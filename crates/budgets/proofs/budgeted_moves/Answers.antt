@@ -1,10 +1,20 @@
 use mathlib.Core.Path.{◌∙◌}
-use Rattle.racks.proofs.Jobs.{of-fit}
-use Rattle.budgets.proofs.Budgeted.{budgeted_by_lem}
+use Rattle.std.proofs.lemmas.Result.{err_from_is_err_and}
+use Rattle.racks.proofs.Caps.{sizes-few}
+use Rattle.racks.proofs.Jobs.{of-spared}
+use Rattle.tables.proofs.Capacities.{of-sizes}
+use Rattle.moves.specs.Moves.{held}
+use Rattle.budgets.proofs.Budgeted.{budgeted_by_lem, budgeted-sizes}
 use Rattle.budgets.proofs.budgeted_moves.Goals as goal
 
+pub returns-in_err-job : goal.returns-in_err-job
+returns-in_err-job c =
+    let s = c.args in
+    let p = err_from_is_err_and c.from_residual.result c.from_residual.ensures.1 in
+    rw (p.1, p.2) (budgeted-sizes s.caps.now s.b _ c.in_err-job.ensures (held s.places.now s.cards.now) s.k)
+
 pub budget_job-requires : goal.budget_job-requires
-budget_job-requires c = of-fit _ _ c.of-job.ensures
+budget_job-requires c = (of-spared _ _ (of-sizes _ _ _ c.in_ok-job.ensures c.args.places.now c.args.cards.now), sizes-few _ _ c.in_ok-job.ensures.0)
 
 pub returns : goal.returns
-returns c = c.budget_job.ensures ∙ budgeted_by_lem _ _ c.of-job.ensures _ _ _
+returns c = c.budget_job.ensures ∙ budgeted_by_lem _ _ _ c.in_ok-job.ensures _ _

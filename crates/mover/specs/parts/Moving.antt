@@ -5,7 +5,7 @@ use Rattle.counting.specs.Checks.{first, known}
 use Rattle.racks.specs.Job.{racks_of}
 use Rattle.racks.specs.declared.Job.{Job}
 use Rattle.answers.specs.Answers.{moves_of}
-use Rattle.answers.specs.declared.Refusal.{Refusal}
+use Rattle.answers.specs.Answers.{Refusal}
 use Rattle.tables.specs.parts.Tables.{refusal_by, cards_number}
 use Rattle.moves.specs.Moves.{Held, carried, Outcome, outcome, end_checks}
 use Rattle.carrying.specs.parts.Carrying.{Slots}

@@ -35,7 +35,7 @@ pub fn put_copy_list(
 {
     let none = Tally::none();
     let tally = copies::parts::list_copies(places, seen, list, none);
-    lines::put_copies(out, at, list, 2 * tally.copies)
+    lines::put_copies(out, at, &list[..2 * tally.copies])
 }
 
 // The text of a run: phases, copies, cards, end. The phases are listed from the run's log, which then has room for the copy list, and for the

@@ -13,12 +13,10 @@ pub fn put_phases(out: &mut [u8], log: &[u16], n: usize) -> usize
 {
     let mut next: usize = 0;
     let mut low: usize = 0;
-    let mut j: usize = 0;
-    while j < n {
+    for j in 0..n {
         let high = 2 * (log[rounds::ENDS + j] as usize);
-        next = lines::put_phase(out, next, j + 1, log, low, high);
+        next = lines::put_phase(out, next, j + 1, &log[low..high]);
         low = high;
-        j = j + 1;
     }
     next
 }

@@ -1,7 +1,7 @@
 -- `seineflute::seineflute_list_job` meets its contract. Assumes nothing.
 use mathlib.Core.Path.{ap, ◌∙◌}
 use Rattle.answers.specs.Answers.{sized_of}
-use Rattle.answers.specs.declared.SizeAnswer.{SizeAnswer}
+use Rattle.answers.specs.Answers.{SizeAnswer}
 use Rattle.seineflute.proofs.seineflute_list_job.Goals as goal
 
 pub returns : goal.returns

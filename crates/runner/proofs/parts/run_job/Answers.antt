@@ -1,7 +1,7 @@
 use mathlib.Core.Path.{refl}
+use Rattle.std.proofs.lemmas.Result.{err_from_is_err_and}
 use Rattle.racks.specs.Job.{racks_of}
-use Rattle.racks.proofs.Jobs.{sound-refused}
-use Rattle.tables.specs.parts.Tables.{OpenCards, refusal_by, cards_number}
+use Rattle.tables.specs.parts.Tables.{refusal_by, cards_number}
 use Rattle.tables.proofs.Refusals.{none_by}
 use Rattle.moves.specs.Moves.{held}
 use Rattle.carrying.proofs.Outcomes.{outcome-refused, outcome-done}
@@ -9,33 +9,28 @@ use Rattle.shuffle.specs.Shuffle.{settled_held}
 use Rattle.runs.specs.Run.{gathered, counts}
 use Rattle.runner.specs.parts.Ran.{ran_by}
 use Rattle.runner.proofs.parts.run_job.Goals as goal
-use Rattle.runner.proofs.parts.run_job.Goals.{Else-refusal-ne0}
 
--- the table and its cards are accepted
-opened : (c : Else-refusal-ne0) → OpenCards c.args.job c.args.b c.args.places.now c.args.cards.now c.cards_refusal-refusal.new.racking
-opened c = c.cards_refusal-refusal.ensures.opened c.if-refusal-ne0.false
+pub check_cards-requires : goal.check_cards-requires
+check_cards-requires c = (c.requires.0.0, c.requires.1, refl)
 
-pub cards_refusal-refusal-requires : goal.cards_refusal-refusal-requires
-cards_refusal-refusal-requires c = (λ z. (c.requires z).0, refl)
-
-pub returns-then-refusal-ne0 : goal.returns-then-refusal-ne0
+pub returns-in_err-check_cards : goal.returns-in_err-check_cards
 unfolding ran_by
-returns-then-refusal-ne0 c =
+returns-in_err-check_cards c =
     let s = c.args in
     let h = held s.places.now s.cards.now in
-    outcome-refused (refusal_by s.job s.places.now (cards_number s.job s.b s.places.now s.cards.now)) (counts (racks_of s.job) s.b h) (settled_held (racks_of s.job) s.b (gathered (racks_of s.job) s.b h)) h _ _
-    c.refused.ensures c.cards_refusal-refusal.ensures.refusal_is c.if-refusal-ne0.true
+    let p = err_from_is_err_and c.from_residual.result c.from_residual.ensures.1 in
+    rw (p.1, p.2) (outcome-refused _ _ _ h _ c.in_err-check_cards.ensures.refusal_is)
 
-pub run_cards-tally-requires : goal.run_cards-tally-requires
-run_cards-tally-requires c =
-    let o = opened (goal.at.run_cards-tally-requires c).Else-refusal-ne0 in
-    (o.table, (c.requires (sound-refused _ o.table.sound)).1, o.long, o.bytes)
+pub run_cards-requires : goal.run_cards-requires
+run_cards-requires c =
+    let o = c.in_ok-check_cards.ensures.opened refl in
+    (o.table, c.requires.0.1, o.long, o.bytes)
 
 pub returns : goal.returns
 unfolding ran_by
 returns c =
     let s = c.args in
     let h = held s.places.now s.cards.now in
-    let m = c.run_cards-tally.ensures in
-    outcome-done (refusal_by s.job s.places.now (cards_number s.job s.b s.places.now s.cards.now)) (counts (racks_of s.job) s.b h) (settled_held (racks_of s.job) s.b (gathered (racks_of s.job) s.b h)) h _ _ (held _ _)
-    c.done.ensures m.tally-is m.held-is (none_by _ _ _ c.cards_refusal-refusal.ensures.refusal_is c.if-refusal-ne0.false)
+    let m = c.run_cards.ensures in
+    outcome-done (refusal_by s.job s.places.now (cards_number s.job s.b s.places.now s.cards.now)) (counts (racks_of s.job) s.b h) (settled_held (racks_of s.job) s.b (gathered (racks_of s.job) s.b h)) h _ (held _ _)
+    m.tally-is m.held-is (none_by _ _ _ c.in_ok-check_cards.ensures.refusal_is refl)

@@ -15,12 +15,12 @@ count c = omega (arith, ap (λ (t : Tally). t.copies) c.list_copies-tally.ensure
 pub overflow_mul-tally : goal.overflow_mul-tally
 overflow_mul-tally c = omega (arith, count (goal.at.overflow_mul-tally c).After-list_copies-tally, few-copies c.requires.0)
 
+pub slice_bounds-put_copies-end : goal.slice_bounds-put_copies-end
+slice_bounds-put_copies-end c = omega (arith, count (goal.at.slice_bounds-put_copies-end c).After-list_copies-tally, copies-long c.args.places.now _ _ c.requires.2 c.list_copies-tally.ensures.copies, c.requires.2)
+
 pub put_copies-requires : goal.put_copies-requires
 put_copies-requires c =
-    let e = c.list_copies-tally.ensures.copies in (
-      omega (arith, count (goal.at.put_copies-requires c).After-list_copies-tally, copies-long c.args.places.now _ _ c.requires.2 e, c.requires.2),
-      rw (copies-read c.args.places.now _ _ c.requires.2 e _ (count (goal.at.put_copies-requires c).After-list_copies-tally)) c.requires.3,
-    )
+    rw (copies-read c.args.places.now _ _ c.requires.2 c.list_copies-tally.ensures.copies _ (count (goal.at.put_copies-requires c).After-list_copies-tally)) c.requires.3
 
 pub returns : goal.returns
 returns c =

@@ -2,6 +2,7 @@ use native.Mathlib.Omega.{arith}
 use Prim.Native.Nat.{◌≤◌, ◌<◌}
 use mathlib.Core.Path.{◌≡◌, sym, ap, ◌∙◌}
 use lib.ListN.{length, get_or}
+use Rattle.answers.specs.Answers.{placeless}
 use Rattle.racks.specs.Racks.{slots, rack_of}
 use Rattle.racks.specs.Limits.{FREE}
 use Rattle.racks.specs.Table.{dest, rack_to}
@@ -10,8 +11,8 @@ use Rattle.racks.proofs.Jobs.{sound-slots}
 use Rattle.racks.proofs.Table.{read-dest}
 use Rattle.racks.proofs.LegalTable.{legal-slot}
 use Rattle.moves.proofs.Ends.{ends-7-from, ends-7-to, ends-8, ends-9, ends-10, ends-11, ends-0}
-use Rattle.mover.proofs.parts.ends_number.Goals as goal
-use Rattle.mover.proofs.parts.ends_number.Goals.{Else-job-to, Else-racking-from, Else-racking-to, Else-x}
+use Rattle.mover.proofs.parts.check_ends.Goals as goal
+use Rattle.mover.proofs.parts.check_ends.Goals.{Else-job-to, Else-racking-from, Else-racking-to, Else-x}
 
 -- both are slots, of which there are at most 4,096
 module _ (c : Else-job-to) where
@@ -59,11 +60,13 @@ there c =
 
 pub returns-then-job-from : goal.returns-then-job-from
 returns-then-job-from c =
-    ends-7-from (racks_of c.args.job) c.args.places.now (c.args.from, c.args.to) (omega (arith, sound-slots _ c.requires.sound))
+    ap placeless
+    (ends-7-from (racks_of c.args.job) c.args.places.now (c.args.from, c.args.to) (omega (arith, sound-slots _ c.requires.sound)))
 
 pub returns-then-job-to : goal.returns-then-job-to
 returns-then-job-to c =
-    ends-7-to (racks_of c.args.job) c.args.places.now (c.args.from, c.args.to) (omega (arith, sound-slots _ c.requires.sound))
+    ap placeless
+    (ends-7-to (racks_of c.args.job) c.args.places.now (c.args.from, c.args.to) (omega (arith, sound-slots _ c.requires.sound)))
 
 pub offset_bounds-places-from : goal.offset_bounds-places-from
 offset_bounds-places-from c = omega (arith, from-lt c, small c)
@@ -73,7 +76,8 @@ bounds-places-from c = omega (arith, from-lt (goal.at.bounds-places-from c).Else
 
 pub returns-then-x : goal.returns-then-x
 returns-then-x c =
-    ends-8 (racks_of c.args.job) c.args.places.now (c.args.from, c.args.to) (from-lt (goal.at.returns-then-x c).Else-job-to) (to-lt (goal.at.returns-then-x c).Else-job-to) (sym (from-read (goal.at.returns-then-x c).Else-job-to) ∙ c.if-x.true)
+    ap placeless
+    (ends-8 (racks_of c.args.job) c.args.places.now (c.args.from, c.args.to) (from-lt (goal.at.returns-then-x c).Else-job-to) (to-lt (goal.at.returns-then-x c).Else-job-to) (sym (from-read (goal.at.returns-then-x c).Else-job-to) ∙ c.if-x.true))
 
 pub overflow_cast-there : goal.overflow_cast-there
 overflow_cast-there c = omega (arith, card c, small (goal.at.overflow_cast-there c).Else-job-to)
@@ -86,8 +90,9 @@ bounds-racking-from c = omega (arith, from-lt (goal.at.bounds-racking-from c).El
 
 pub returns-then-racking-from : goal.returns-then-racking-from
 returns-then-racking-from c =
-    ends-9 (racks_of c.args.job) c.args.places.now (c.args.from, c.args.to) (from-lt (goal.at.returns-then-racking-from c).Else-job-to) (to-lt (goal.at.returns-then-racking-from c).Else-job-to) (held (goal.at.returns-then-racking-from c).Else-x)
-    (sym (c.requires.filled _ (from-lt (goal.at.returns-then-racking-from c).Else-job-to)) ∙ c.if-racking-from.true ∙ there (goal.at.returns-then-racking-from c).Else-x)
+    ap placeless
+    (ends-9 (racks_of c.args.job) c.args.places.now (c.args.from, c.args.to) (from-lt (goal.at.returns-then-racking-from c).Else-job-to) (to-lt (goal.at.returns-then-racking-from c).Else-job-to) (held (goal.at.returns-then-racking-from c).Else-x)
+    (sym (c.requires.filled _ (from-lt (goal.at.returns-then-racking-from c).Else-job-to)) ∙ c.if-racking-from.true ∙ there (goal.at.returns-then-racking-from c).Else-x))
 
 pub bounds-racking-to : goal.bounds-racking-to
 bounds-racking-to c = omega (arith, to-lt (goal.at.bounds-racking-to c).Else-job-to, small (goal.at.bounds-racking-to c).Else-job-to)
@@ -99,8 +104,9 @@ is-away c there low q = c.if-racking-from.false (c.requires.filled _ low ∙ q �
 
 pub returns-then-racking-to : goal.returns-then-racking-to
 returns-then-racking-to c =
-    ends-10 (racks_of c.args.job) c.args.places.now (c.args.from, c.args.to) (from-lt (goal.at.returns-then-racking-to c).Else-job-to) (to-lt (goal.at.returns-then-racking-to c).Else-job-to) (held (goal.at.returns-then-racking-to c).Else-x) (is-away (goal.at.returns-then-racking-to c).Else-racking-from (there (goal.at.returns-then-racking-to c).Else-x) (from-lt (goal.at.returns-then-racking-to c).Else-job-to))
-    (λ q. c.if-racking-to.true (c.requires.filled _ (to-lt (goal.at.returns-then-racking-to c).Else-job-to) ∙ q ∙ sym (there (goal.at.returns-then-racking-to c).Else-x)))
+    ap placeless
+    (ends-10 (racks_of c.args.job) c.args.places.now (c.args.from, c.args.to) (from-lt (goal.at.returns-then-racking-to c).Else-job-to) (to-lt (goal.at.returns-then-racking-to c).Else-job-to) (held (goal.at.returns-then-racking-to c).Else-x) (is-away (goal.at.returns-then-racking-to c).Else-racking-from (there (goal.at.returns-then-racking-to c).Else-x) (from-lt (goal.at.returns-then-racking-to c).Else-job-to))
+    (λ q. c.if-racking-to.true (c.requires.filled _ (to-lt (goal.at.returns-then-racking-to c).Else-job-to) ∙ q ∙ sym (there (goal.at.returns-then-racking-to c).Else-x))))
 
 -- the target is on the card's destination rack
 meets : (c : Else-racking-to) → get_or c.args.racking.now (get_or c.args.places.now c.args.from 0) 0 ≡ rack_to (racks_of c.args.job) c.args.places.now c.args.from
@@ -117,8 +123,10 @@ bounds-places-to c = omega (arith, to-lt (goal.at.bounds-places-to c).Else-job-t
 
 pub returns-then-places-to : goal.returns-then-places-to
 returns-then-places-to c =
-    ends-11 (racks_of c.args.job) c.args.places.now (c.args.from, c.args.to) (from-lt (goal.at.returns-then-places-to c).Else-job-to) (to-lt (goal.at.returns-then-places-to c).Else-job-to) (held (goal.at.returns-then-places-to c).Else-x) (is-away (goal.at.returns-then-places-to c).Else-racking-from (there (goal.at.returns-then-places-to c).Else-x) (from-lt (goal.at.returns-then-places-to c).Else-job-to)) (meets (goal.at.returns-then-places-to c).Else-racking-to (there (goal.at.returns-then-places-to c).Else-x)) (λ q. c.if-places-to.true (to_read (goal.at.returns-then-places-to c).Else-job-to ∙ q))
+    ap placeless
+    (ends-11 (racks_of c.args.job) c.args.places.now (c.args.from, c.args.to) (from-lt (goal.at.returns-then-places-to c).Else-job-to) (to-lt (goal.at.returns-then-places-to c).Else-job-to) (held (goal.at.returns-then-places-to c).Else-x) (is-away (goal.at.returns-then-places-to c).Else-racking-from (there (goal.at.returns-then-places-to c).Else-x) (from-lt (goal.at.returns-then-places-to c).Else-job-to)) (meets (goal.at.returns-then-places-to c).Else-racking-to (there (goal.at.returns-then-places-to c).Else-x)) (λ q. c.if-places-to.true (to_read (goal.at.returns-then-places-to c).Else-job-to ∙ q)))
 
 pub returns : goal.returns
 returns c =
-    ends-0 (racks_of c.args.job) c.args.places.now (c.args.from, c.args.to) (from-lt (goal.at.returns c).Else-job-to) (to-lt (goal.at.returns c).Else-job-to) (held (goal.at.returns c).Else-x) (is-away (goal.at.returns c).Else-racking-from (there (goal.at.returns c).Else-x) (from-lt (goal.at.returns c).Else-job-to)) (meets (goal.at.returns c).Else-racking-to (there (goal.at.returns c).Else-x)) (sym (to_read (goal.at.returns c).Else-job-to) ∙ c.if-places-to.false)
+    ap placeless
+    (ends-0 (racks_of c.args.job) c.args.places.now (c.args.from, c.args.to) (from-lt (goal.at.returns c).Else-job-to) (to-lt (goal.at.returns c).Else-job-to) (held (goal.at.returns c).Else-x) (is-away (goal.at.returns c).Else-racking-from (there (goal.at.returns c).Else-x) (from-lt (goal.at.returns c).Else-job-to)) (meets (goal.at.returns c).Else-racking-to (there (goal.at.returns c).Else-x)) (sym (to_read (goal.at.returns c).Else-job-to) ∙ c.if-places-to.false))
