@@ -6,16 +6,20 @@ use native.Mathlib.Omega.{arith}
 use denote.Ref.{Bor}
 use Rattle.counting.specs.One.{One, OneSeen}
 use Rattle.counting.proofs.One.{one-is, one_by}
-use Rattle.numerals.specs.Numeral.{Got, numeral, got_of}
+use Rattle.std.specs.Prelude.{Result, Ok, Err}
+use Rattle.answers.specs.Answers.{placeless, refusal_of}
+use Rattle.answers.specs.declared.Refusal as given
+use Rattle.answers.specs.declared.Refusal.TheVariants as case
+use Rattle.answers.proofs.One.{refusal-one}
+use Rattle.numerals.specs.Numeral.{Got, refused, numeral, got_of}
 use Rattle.numerals.specs.declared.Numeral.{Numeral}
-use Rattle.numerals.specs.declared.Numeral.TheVariants.{Value, Refused}
 use Rattle.numerals.proofs.Groups.{next-some}
+use Rattle.numerals.proofs.Numerals.{form-place, bare-place}
 use Rattle.parsing.specs.File.{Read}
-use Rattle.parsing.specs.declared.FileAnswer.{FileAnswer}
+use Rattle.parsing.specs.Answers.{FileAnswer}
 use Rattle.jobfile.specs.Answers.{read_of, ReadFile, RestOf, CardBytes}
-use Rattle.jobfile.specs.Reading.{at_after, Stepped, New, Next, JobRead, job_seen}
+use Rattle.jobfile.specs.Reading.{at_after, Stepped, New, Next, JobFile, JobRead, job_seen}
 use Rattle.jobfile.specs.declared.Reader.{Reader}
-use Rattle.jobfile.specs.declared.JobFile.{JobFile}
 
 -- a file read into two lent lists
 pub filed-one : (file : List ℕ) {allowed : Read → Type 0} → One allowed
@@ -36,28 +40,33 @@ card-bytes-one file found x y p q = p ∙ sym q
 
 -- a numeral read: a value comes with a position behind it, so it is no refusal
 module _ (file : List ℕ) (at : ℕ) where
-  no_mix : (v p n : ℕ) → got_of (Value v p) ≡ numeral file at → got_of (Refused n) ≡ numeral file at → ⊥
+  no_mix : (x : Numeral) (e : given.Refusal) → got_of (Ok x) ≡ numeral file at → got_of (Err e) ≡ numeral file at → ⊥
   unfolding got_of numeral
-  no_mix v p n a b =
+  no_mix x e a b =
       omega (arith, next-some 3 file at 0 1 (sym (ap (λ (g : Got). g.number) a)), ap (λ (g : Got). g.next) b)
 
-  one-numeral : (m n : Numeral) → got_of m ≡ numeral file at → got_of n ≡ numeral file at → m ≡ n
+  -- a refusal has no place
+  form-bare : (e : given.Refusal) → refused (refusal_of e).number ≡ numeral file at → refusal_of e ≡ placeless (refusal_of e).number
+  form-bare e is = bare-place e 15 (form-place file at e case.FileEnds is)
+
+  one-numeral : (m n : Result Numeral given.Refusal) → got_of m ≡ numeral file at → got_of n ≡ numeral file at → m ≡ n
   unfolding got_of
-  one-numeral (Value v p) (Value w q) a b = ap (λ (g : Got). Value g.value g.next) (a ∙ sym b)
-  one-numeral (Value v p) (Refused n) a b = absurd (no_mix v p n a b)
-  one-numeral (Refused m) (Value w q) a b = absurd (no_mix w q m b a)
-  one-numeral (Refused m) (Refused n) a b = ap (λ (g : Got). Refused g.number) (a ∙ sym b)
+  one-numeral (Ok x) (Ok y) a b = ap (λ (g : Got). Ok (record { value = g.value; next = g.next })) (a ∙ sym b)
+  one-numeral (Ok x) (Err e) a b = absurd (no_mix x e a b)
+  one-numeral (Err e) (Ok y) a b = absurd (no_mix y e b a)
+  one-numeral (Err e) (Err f) a b =
+      ap Err (refusal-one e f (form-bare e a ∙ ap (λ (g : Got). placeless g.number) (a ∙ sym b) ∙ sym (form-bare f b)))
 
 pub step-at-one : (file : List ℕ) (at : ℕ) → One (Stepped file at)
 step-at-one file at x y p q =
     let e = one-numeral file at x.numeral y.numeral p.got-is q.got-is in
-    let f : x.at ≡ y.at = p.at-is ∙ ap (λ (n : Numeral). at_after n at) e ∙ sym q.at-is in
+    let f : x.at ≡ y.at = p.at-is ∙ ap (λ (n : Result Numeral given.Refusal). at_after n at) e ∙ sym q.at-is in
     λ i. record { numeral = e i; at = f i }
 
-pub next_one : (reader : Reader) → One (λ ((n, after) : Numeral × Reader). Next reader n after)
+pub next_one : (reader : Reader) → One (λ ((n, after) : Result Numeral given.Refusal × Reader). Next reader n after)
 next_one reader (m, x) (n, y) p q =
     let e = one-numeral reader.file.now reader.at m n p.got-is q.got-is in
-    let f : x.at ≡ y.at = p.at-is ∙ ap (λ (k : Numeral). at_after k reader.at) e ∙ sym q.at-is in
+    let f : x.at ≡ y.at = p.at-is ∙ ap (λ (k : Result Numeral given.Refusal). at_after k reader.at) e ∙ sym q.at-is in
     let g : x.file ≡ y.file = p.file-is ∙ sym q.file-is in
     λ i. (e i, record { file = g i; at = f i })
 

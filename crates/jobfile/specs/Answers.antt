@@ -2,10 +2,8 @@
 use Rattle.std.specs.Prelude.{List, [], ◌≡◌, ℕ, drop}
 use Rattle.counting.specs.Tests.{pick}
 use Rattle.counting.specs.Checks.{done}
-use Rattle.racks.specs.Racks.{slots}
-use Rattle.answers.specs.Answers.{answer}
 use Rattle.parsing.specs.File.{Read, read}
-use Rattle.parsing.specs.declared.FileAnswer.{FileAnswer}
+use Rattle.parsing.specs.Answers.{FileAnswer}
 
 -- the card bytes: what lies from their start on; an empty part on a refusal
 unfoldable pub cards_of : FileAnswer → List ℕ → List ℕ

@@ -1,20 +1,21 @@
 -- What the reader's thin functions promise. Assumes nothing: these are definitions.
-use Rattle.std.specs.Prelude.{◌≡◌, List, ℕ, drop}
+use Rattle.std.specs.Prelude.{◌≡◌, List, [], ℕ, drop, Result, Ok, Err}
 use Rattle.std.specs.Borrow.{Bor}
+use Rattle.answers.specs.Answers.{refusal_of, placeless, no_counts, answer}
+use Rattle.answers.specs.declared.Refusal as given
 use Rattle.answers.specs.declared.Answer.{Answer}
 use Rattle.numerals.specs.Numeral.{numeral}
 use Rattle.parsing.specs.File.{read}
 use Rattle.numerals.specs.Numeral.{got_of}
 use Rattle.numerals.specs.declared.Numeral.{Numeral}
-use Rattle.numerals.specs.declared.Numeral.TheVariants.{Value, Refused}
 use Rattle.jobfile.specs.declared.Reader.{Reader}
 use Rattle.jobfile.specs.declared.Step.{Step}
-use Rattle.jobfile.specs.declared.JobFile.{JobFile}
+use Rattle.jobfile.specs.declared.JobFile as code
 
 -- the position of the reader behind a numeral: it moves on, and stays where the numeral is refused
-unfoldable pub at_after : Numeral → ℕ → ℕ
-at_after (Value x next) at = next
-at_after (Refused n) at = at
+unfoldable pub at_after : Result Numeral given.Refusal → ℕ → ℕ
+at_after (Ok x) at = x.next
+at_after (Err e) at = at
 
 -- a numeral of the file and the position behind it
 pub record Stepped (file : List ℕ) (at : ℕ) (step : Step) : Type 0 where
@@ -22,7 +23,7 @@ pub record Stepped (file : List ℕ) (at : ℕ) (step : Step) : Type 0 where
   pub at-is : step.at ≡ at_after step.numeral at
 
 -- the next numeral of a reader, which keeps its file and remembers its position
-pub record Next (before : Reader) (n : Numeral) (after : Reader) : Type 0 where
+pub record Next (before : Reader) (n : Result Numeral given.Refusal) (after : Reader) : Type 0 where
   pub got-is : got_of n ≡ numeral before.file.now before.at
   pub file-is : after.file ≡ before.file
   pub at-is : after.at ≡ at_after n before.at
@@ -30,6 +31,20 @@ pub record Next (before : Reader) (n : Numeral) (after : Reader) : Type 0 where
 -- the part of the file from a reader's position on: empty where the position lies behind the end
 unfoldable pub ahead : Reader → List ℕ
 ahead reader = drop reader.at reader.file.now
+
+-- what reading a job tells: the answer, N, B, S, where the card bytes begin, and their bytes; no card bytes and 0 for every other on a refusal
+pub record JobFile : Type 0 where
+  pub answer : Answer
+  pub racks : ℕ
+  pub bytes : ℕ
+  pub slots : ℕ
+  pub start : ℕ
+  pub cards : List ℕ
+
+abbrev pub job_told : Result code.JobFile given.Refusal → JobFile
+job_told (Ok job) =
+    record { answer = answer (placeless 0) no_counts; racks = job.racks; bytes = job.bytes; slots = job.slots; start = job.start; cards = job.cards.now }
+job_told (Err e) = record { answer = answer (refusal_of e) no_counts; racks = 0; bytes = 0; slots = 0; start = 0; cards = [] }
 
 -- **Job file.** The job at the reader's position: N, B, S, how far behind that position the card bytes begin, these as a part of the file, and the two
 -- lent lists at exit
@@ -39,7 +54,7 @@ pub record JobRead (reader : Reader) (caps places : List ℕ) (job : JobFile) (c
   pub bytes-are : job.bytes ≡ (read (ahead reader) caps places).bytes
   pub slots-are : job.slots ≡ (read (ahead reader) caps places).slots
   pub start_is : job.start ≡ (read (ahead reader) caps places).start
-  pub cards-are : job.cards.now ≡ (read (ahead reader) caps places).cards
+  pub cards-are : job.cards ≡ (read (ahead reader) caps places).cards
   pub caps-are : caps' ≡ (read (ahead reader) caps places).caps
   pub places-are : places' ≡ (read (ahead reader) caps places).places
 
@@ -49,4 +64,4 @@ New file r = (r.file ≡ file) × (r.at ≡ 0)
 
 -- what is seen of a job that is read: the part of the file that its cards are is known by its bytes
 abbrev pub job_seen : JobFile × List ℕ × List ℕ → Answer × ℕ × ℕ × ℕ × ℕ × List ℕ × List ℕ × List ℕ
-job_seen (job, caps, places) = (job.answer, job.racks, job.bytes, job.slots, job.start, job.cards.now, caps, places)
+job_seen (job, caps, places) = (job.answer, job.racks, job.bytes, job.slots, job.start, job.cards, caps, places)

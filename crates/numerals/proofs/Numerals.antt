@@ -1,21 +1,21 @@
 -- Laws of numerals read and checked one after another. Assumes nothing.
-use mathlib.Core.Path.{◌≡◌, refl, ap, sym, ◌∙◌}
+use mathlib.Core.Path.{◌≡◌, refl, ap, sym, subst, ◌∙◌}
 use mathlib.Core.Bool.{true, false, not}
 use mathlib.Core.List.{List, [], ◌∷◌, ◌++◌}
 use Prim.Native.Nat.{ℕ, zero, suc, ◌+◌, ◌<◌, ◌≤◌}
 use native.Mathlib.Omega.{arith}
 use native.Mathlib.Nat.{suc-add}
 use native.Mathlib.Decide.{ℕ_discrete, dec_le}
-use lib.Dec.{ltb}
-use borrow.Author.Tests.{ne_eqb, eqb-true, eqb-false, lt-ltb, le-ltb}
+use lib.Dec.{eqb, ltb}
+use borrow.Author.Tests.{eq-eqb, ne_eqb, eqb-true, eqb-false, lt-ltb, le-ltb}
 use Rattle.counting.specs.Checks.{first, known, done}
-use Rattle.counting.proofs.Tests.{by-test, or_l, or_r, or-none}
+use Rattle.counting.proofs.Tests.{pick_same, by-test, or_l, or_r, or-none}
 use Rattle.counting.proofs.Checks.{first-here, first-later, first-none, first_of}
 use Rattle.numerals.specs.Numeral.{Got, refused, numeral, Numerals, numerals}
-use Rattle.numerals.specs.Numeral.{got_of}
-use Rattle.numerals.specs.parts.Bounds.{checked_numeral, outside}
-use Rattle.numerals.specs.declared.Numeral.{Numeral}
-use Rattle.numerals.specs.declared.Numeral.TheVariants.{Value, Refused}
+use Rattle.answers.specs.Answers.{Refusal, placeless, refusal_of}
+use Rattle.answers.specs.declared.Refusal as given
+use Rattle.answers.specs.declared.Refusal.TheVariants as case
+use Rattle.numerals.specs.parts.Bounds.{checked_numeral, outside, place_with}
 use Rattle.numerals.proofs.Groups.{next-some, groups-number}
 
 -- a numeral read, its value and the position behind it
@@ -29,16 +29,6 @@ stopped n = record { number = n; values = []; next = 0 }
 -- the numerals read
 abbrev pub reading : List ℕ → ℕ → Numerals
 reading values next = record { number = 0; values = values; next = next }
-
--- what the cases of an answer are
-pub value-got : (r : Numeral) (v p : ℕ) (g : Got) → r ≡ Value v p → got_of r ≡ g → got v p ≡ g
-unfolding got_of
-value-got r v p g e h = sym (ap got_of e) ∙ h
-
--- a refusal
-pub refused-got : (r : Numeral) (x n : ℕ) (g : Got) → r ≡ Refused x → n ≡ (got_of r).number → got_of r ≡ g → refused n ≡ g
-unfolding got_of
-refused-got r x n g e k h = ap refused (k ∙ ap (λ (q : Numeral). (got_of q).number) e) ∙ sym (ap got_of e) ∙ h
 
 -- two refusals in their order
 abbrev pub either : ℕ → ℕ → ℕ
@@ -63,12 +53,52 @@ either-0 a b z = elim (ℕ_discrete a 0) [
   | yes e ↦ (e, sym (either_r b) ∙ ap (λ (n : ℕ). either n b) (sym e) ∙ z)
 ]
 
+-- a refusal whose number is neither 5 nor 6 has no place
+no_place : (e : given.Refusal) → ((refusal_of e).number ≡ 5 → ⊥) → ((refusal_of e).number ≡ 6 → ⊥) → (refusal_of e).place ≡ 0
+no_place case.BadCount f g = refl
+no_place case.BadBytes f g = refl
+no_place case.BadSize f g = refl
+no_place case.BadLength f g = refl
+no_place (case.BadEntry entry) f g = absurd (f refl)
+no_place (case.NamedTwice entry) f g = absurd (g refl)
+no_place case.NoSlot f g = refl
+no_place case.SourceFree f g = refl
+no_place case.SourceHome f g = refl
+no_place case.Elsewhere f g = refl
+no_place case.TargetTaken f g = refl
+no_place case.SomeAway f g = refl
+no_place case.TooShort f g = refl
+no_place case.FileForm f g = refl
+no_place case.FileEnds f g = refl
+no_place case.FileLeftOver f g = refl
+no_place case.FileRoom f g = refl
+no_place case.FileLarge f g = refl
+no_place case.BufferShort f g = refl
+no_place case.FileGroups f g = refl
+
 module _ (file : List ℕ) (at : ℕ) where
   -- a refusal is no 0
   refused-some : (n : ℕ) → refused n ≡ numeral file at → n ≡ 0 → ⊥
   unfolding numeral
   refused-some n e z =
       omega (arith, next-some 3 file at 0 1 (sym (ap (λ (g : Got). g.number) e) ∙ z), ap (λ (g : Got). g.next) e)
+
+  -- what a numeral is refused with for its form has no place
+  form-number : (n : ℕ) → refused n ≡ numeral file at → (n ≡ 5 → ⊥) × (n ≡ 6 → ⊥)
+  unfolding numeral
+  form-number n e =
+      subst (λ (m : ℕ). (m ≡ 5 → ⊥) × (m ≡ 6 → ⊥)) (sym (ap (λ (g : Got). g.number) e))
+      (groups-number (λ m. (m ≡ 5 → ⊥) × (m ≡ 6 → ⊥)) (λ z. omega arith, λ z. omega arith) (λ z. omega arith, λ z. omega arith) (λ z. omega arith, λ z. omega arith) (λ z. omega arith, λ z. omega arith) 3 file at 0 1)
+
+  pub form-place : (e x : given.Refusal) → refused (refusal_of e).number ≡ numeral file at → (refusal_of e).place ≡ place_with (refusal_of x) (refusal_of e).number
+  unfolding place_with
+  form-place e x is =
+      let n = (refusal_of e).number in
+      let k = form-number n is in
+      no_place e k.0 k.1
+      ∙ by-test (eqb n (refusal_of x).number)
+      (λ t. let q = eqb-true n (refusal_of x).number t in rw t (sym (no_place x (λ z. k.0 (q ∙ z)) (λ z. k.1 (q ∙ z)))))
+      (λ t. rw t)
 
   module _ (bad : ℕ → ℕ) where
     -- what a numeral gives that is refused by its form, that passes, and that is bad
@@ -152,6 +182,20 @@ module _ (file : List ℕ) (at : ℕ) where
     -- they are stopped by one that is bad
     pub numerals-bad : (f : ℕ → ℕ) (v p m : ℕ) → got v p ≡ checked_numeral f file at → bad before v ≡ m → (m ≡ 0 → ⊥) → numerals bad (suc left) file at before ≡ stopped m
     numerals-bad f v p m e b n = numerals_wrong v p m (passed-numeral f v p e) b n
+
+-- the place of a refusal goes with its own number
+pub own-place : (x : Refusal) → x.place ≡ place_with x x.number
+unfolding place_with
+own-place x = rw (eq-eqb x.number x.number refl)
+
+-- a number with a place
+abbrev placed : ℕ → ℕ → Refusal
+placed n p = record { number = n; place = p }
+
+-- what is refused as one that has no place has none
+pub bare-place : (e : given.Refusal) (m : ℕ) → (refusal_of e).place ≡ place_with (placeless m) (refusal_of e).number → refusal_of e ≡ placeless (refusal_of e).number
+unfolding place_with
+bare-place e m q = ap (placed (refusal_of e).number) (q ∙ pick_same (eqb (refusal_of e).number m) 0)
 
 -- between two limits, by the tests that the code makes
 module _ (low high n x : ℕ) where

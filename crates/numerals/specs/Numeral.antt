@@ -1,9 +1,10 @@
 -- "Job file": its numbers, here called numerals, in groups of seven bits. Assumes nothing: these are definitions.
-use Rattle.std.specs.Prelude.{not, List, [], ◌∷◌, ◌++◌, ℕ, zero, suc, ◌+◌, ◌-◌, ◌*◌, eqb, leb, length, get_or}
+use Rattle.std.specs.Prelude.{not, Result, Ok, Err, List, [], ◌∷◌, ◌++◌, ℕ, zero, suc, ◌+◌, ◌-◌, ◌*◌, eqb, leb, length, get_or}
 use Rattle.counting.specs.Tests.{◌and◌, pick}
 use Rattle.counting.specs.Checks.{first, known, done}
+use Rattle.answers.specs.Answers.{refusal_of}
+use Rattle.answers.specs.declared.Refusal as given
 use Rattle.numerals.specs.declared.Numeral.{Numeral}
-use Rattle.numerals.specs.declared.Numeral.TheVariants.{Value, Refused}
 
 -- a numeral read: 0 or the number that it is refused with, its value, and the position behind it
 pub record Got : Type 0 where
@@ -46,7 +47,7 @@ numerals bad (suc n) file at before =
     let no = first (known x.number ∷ known (bad before x.value) ∷ []) in
     pick (done no) (numerals bad n file x.next (before ++ x.value ∷ [])) (record { number = no; values = []; next = 0 })
 
--- the rules' number, the value and the position for each case of `Numeral`
-unfoldable pub got_of : Numeral → Got
-got_of (Value x next) = record { number = 0; value = x; next = next }
-got_of (Refused n) = refused n
+-- the rules' number, the value and the position that reading a numeral gives
+unfoldable pub got_of : Result Numeral given.Refusal → Got
+got_of (Ok n) = record { number = 0; value = n.value; next = n.next }
+got_of (Err e) = refused (refusal_of e).number

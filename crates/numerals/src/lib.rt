@@ -3,9 +3,9 @@
 
 pub mod parts;
 
-// A numeral of the file: its value and the position behind it, or what it is refused with.
+// A numeral of the file: its value and the position behind it.
 #[derive(Clone, Copy)]
-pub enum Numeral {
-    Value(usize, usize),
-    Refused(u8),
+pub struct Numeral {
+    pub value: usize,
+    pub next: usize,
 }

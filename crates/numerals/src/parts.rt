@@ -1,73 +1,66 @@
 // One numeral of a file, and a numeral between two limits.
-ghost use Rattle.std.specs.Prelude.{◌≡◌, ◌<◌, ◌≤◌};
+ghost use Rattle.std.specs.Prelude.{◌≡◌, ◌<◌, ◌≤◌, IfErr};
+ghost use Rattle.answers.specs.Answers.{refusal_of};
 ghost use Rattle.numerals.specs.Numeral.{numeral, last_group, got_of};
-ghost use Rattle.numerals.specs.parts.Bounds.{ranged};
+ghost use Rattle.numerals.specs.parts.Bounds.{ranged, place_with};
 
 use crate::Numeral;
+use answers::Refusal;
 
 // The numeral at a position of the file: groups of seven bits, lowest first, at most three. 20 at once where the third has its top bit
 // set, whatever follows it.
-pub fn next_numeral(file: &[u8], at: usize) -> Numeral
+pub fn next_numeral(file: &[u8], at: usize) -> Result<Numeral, Refusal>
     ensures { got_of result ≡ numeral file.now at }
 {
     let mut value: usize = 0;
     let mut weight: usize = 1;
     let mut next = at;
-    let mut left: usize = 3;
-    while 0 < left {
+    for _ in 0..3usize {
         if file.len() <= next {
-            return Numeral::Refused(15);
+            return Err(Refusal::FileEnds);
         }
         let x = file[next] as usize;
+        next += 1;
         if x < 128 {
-            return last_group(value, weight, x, next + 1);
+            return last_group(value, weight, x, next);
         }
-        value = value + (x - 128) * weight;
-        weight = weight * 128;
-        next = next + 1;
-        left = left - 1;
+        value += (x - 128) * weight;
+        weight *= 128;
     }
-    Numeral::Refused(20)
+    Err(Refusal::FileGroups)
 }
 
 // The last group of a numeral: 14 where it is 0 and not the only one.
-fn last_group(value: usize, weight: usize, x: usize, next: usize) -> Numeral
+fn last_group(value: usize, weight: usize, x: usize, next: usize) -> Result<Numeral, Refusal>
     requires { (x < 128) × (weight ≤ 16384) × (value < weight) }
     ensures { got_of result ≡ last_group value weight x next }
 {
-    if x != 0 {
-        return Numeral::Value(value + x * weight, next);
+    if x == 0 && weight != 1 {
+        return Err(Refusal::FileForm);
     }
-    if weight != 1 {
-        return Numeral::Refused(14);
-    }
-    Numeral::Value(value, next)
+    Ok(Numeral {
+        value: value + x * weight,
+        next,
+    })
 }
 
-// What a numeral is refused with; 0 where it is not.
-pub fn refused_with(got: Numeral) -> u8
-    ensures { result ≡ (got_of got).number }
+// The numeral at a position of the file, refused as given where it is below `low` or above `high`.
+pub fn bounded_numeral(
+    file: &[u8],
+    at: usize,
+    low: usize,
+    high: usize,
+    refusal: Refusal,
+) -> Result<Numeral, Refusal>
+    ensures number { got_of result ≡ ranged low high (refusal_of refusal).number file.now at }
+    ensures place { IfErr result (λ e. (refusal_of e).place ≡ place_with (refusal_of refusal) (refusal_of e).number) }
 {
-    match got {
-        Numeral::Value(_, _) => 0,
-        Numeral::Refused(number) => number,
+    let got = next_numeral(file, at)?;
+    if got.value < low {
+        return Err(refusal);
     }
-}
-
-// The numeral at a position of the file, refused with n where it is below `low` or above `high`.
-pub fn bounded_numeral(file: &[u8], at: usize, low: usize, high: usize, n: u8) -> Numeral
-    requires { 0 < n }
-    ensures { got_of result ≡ ranged low high n file.now at }
-{
-    let got = next_numeral(file, at);
-    let Numeral::Value(x, _) = got else {
-        return got;
-    };
-    if x < low {
-        return Numeral::Refused(n);
+    if high < got.value {
+        return Err(refusal);
     }
-    if high < x {
-        return Numeral::Refused(n);
-    }
-    got
+    Ok(got)
 }

@@ -1,15 +1,15 @@
 -- Laws of the m_p read one after another, with their running total. Assumes nothing.
-use mathlib.Core.Path.{◌≡◌, ap, sym, ◌∙◌, subst}
+use mathlib.Core.Path.{◌≡◌, refl, ap, sym, ◌∙◌, subst}
 use mathlib.Core.Bool.{true, false}
 use mathlib.Core.List.{List, [], ◌∷◌, ◌++◌}
-use Prim.Native.Nat.{ℕ, suc, ◌+◌, ◌-◌, ◌≤◌, ◌<◌}
+use Prim.Native.Nat.{ℕ, suc, min, ◌+◌, ◌-◌, ◌≤◌, ◌<◌}
 use native.Mathlib.Omega.{arith}
 use native.Mathlib.Nat.{sub-zero}
 use native.Mathlib.Numerals.{add-one}
 use native.Mathlib.Decide.{ℕ_discrete, dec_le}
 use lib.ListN.{length, set, take, length-append, length-set, get_or-append}
 use lib.Seq.{get_or-append_seam, take-suc-set}
-use borrow.Author.Tests.{ltb-false, lt-ltb, le-ltb, ne_eqb}
+use borrow.Author.Tests.{ltb-false, lt-ltb, le-ltb}
 use Rattle.counting.specs.Count.{sum}
 use Rattle.counting.proofs.Tests.{or-off_l, or-off_r}
 use Rattle.counting.proofs.Some.{some-off}
@@ -18,11 +18,14 @@ use Rattle.counting.proofs.Checks.{first-here, first-later, first-none}
 use Rattle.racks.specs.Racks.{of_caps, users, total}
 use Rattle.racks.specs.Numbers.{bad_size, too_large}
 use Rattle.racks.proofs.Caps.{length-caps, users-caps, size-rack, size-all, size-good, total-is}
+use Rattle.std.specs.Prelude.{Ok, Err}
+use Rattle.answers.specs.Answers.{placeless, refusal_of}
+use Rattle.answers.specs.declared.Refusal as given
 use Rattle.numerals.specs.Numeral.{refused, numerals}
 use Rattle.parsing.specs.File.{wrong_m}
 use Rattle.parsing.specs.parts.Parsing.{room_for, taken_of, CapsRead}
-use Rattle.numerals.specs.parts.Bounds.{ranged, outside}
-use Rattle.numerals.proofs.Numerals.{got, reading, passed-good, refused_by, numerals-go, numerals-stop, inside, outside-none, outside_high}
+use Rattle.numerals.specs.parts.Bounds.{ranged, outside, place_with}
+use Rattle.numerals.proofs.Numerals.{got, reading, passed-good, numerals-go, numerals-stop, inside, outside-none, outside_high, bare-place}
 
 -- capacities that are in order so far
 module _ (caps : List ℕ) (good : bad_size (of_caps caps) ≡ false) where
@@ -81,6 +84,14 @@ module _ (before : List ℕ) (m : ℕ) where
     unfolding wrong_m
     wrong-0 h = first-later _ 3 _ h ∙ first-none
 
+-- the room that the running total leaves, as the code has it
+pub room-min : (t : ℕ) → min (4032 - t) 1023 ≡ room_for t
+unfolding room_for
+room-min t = elim (dec_le 1023 (4032 - t)) [
+  | yes h ↦ rw (le-ltb (4032 - t) 1023 h) (omega arith)
+  | no h ↦ rw (lt-ltb (4032 - t) 1023 (omega arith)) (omega arith)
+]
+
 -- the room that the running total leaves
 pub room-is : (t m : ℕ) → m ≤ room_for t → (m ≤ 1023) × (m ≤ 4032 - t)
 unfolding room_for
@@ -98,7 +109,6 @@ room_not t m l h = elim (dec_le 1023 (4032 - t)) [
 
 -- p of n capacities are read: they are at the front of the list, in order, and what is left is as from the start
 pub record Capping (file : List ℕ) (at n p next sum : ℕ) (caps : List ℕ) : Type 0 where
-  pub few : p ≤ n
   pub long : length caps ≡ 64
   pub sum_is : sum ≡ total (of_caps (take p caps))
   pub good : bad_size (of_caps (take p caps)) ≡ false
@@ -116,7 +126,6 @@ module _ (file : List ℕ) (at n : ℕ) (caps : List ℕ) where
   pub capping-none : length caps ≡ 64 → Capping file at n 0 at 0 caps
   capping-none l =
       record {
-        few = omega arith;
         long = l;
         sum_is = total-none;
         good = size_none;
@@ -146,7 +155,6 @@ module _ (file : List ℕ) (at n : ℕ) (caps : List ℕ) where
             let t : take (p + 1) (set caps p m) ≡ take p caps ++ m ∷ [] = ap (λ (k : ℕ). take k (set caps p m)) (add-one p) ∙ take-suc-set caps p m (omega (arith, c.long)) in
             let g = size-after (take p caps) m c.good cap-small.0 (omega (arith, c.sum_is, cap-small.1)) in
             record {
-              few = omega arith;
               long = length-set caps p m ∙ c.long;
               sum_is = rw t (omega (arith, c.sum_is, total-after (take p caps) m));
               good = rw t g;
@@ -165,24 +173,25 @@ module _ (file : List ℕ) (at n : ℕ) (caps : List ℕ) where
       ]
 
       -- one is refused
-      pub capping-stop : (k : ℕ) → refused k ≡ ranged 0 (room_for sum) 3 file next → CapsRead file at n (record { number = k; next = 0 }) caps
+      pub capping-stop : (e : given.Refusal) → refused (refusal_of e).number ≡ ranged 0 (room_for sum) 3 file next
+          → (refusal_of e).place ≡ place_with (placeless 3) (refusal_of e).number → CapsRead file at n (Err e) caps
       unfolding ranged taken_of
-      capping-stop k e =
-          let f = (refused_by file next (outside 0 (room_for sum) 3) k e).1 in
+      capping-stop e r q =
           record {
-            is = rw (ne_eqb k 0 f) (sym (numerals-stop file next wrong_m (n - (p + 1)) (take p caps) (outside 0 (room_for sum) 3) as-bad k e) ∙ left-suc);
-            good = λ z. absurd (f z);
+            is = sym (numerals-stop file next wrong_m (n - (p + 1)) (take p caps) (outside 0 (room_for sum) 3) as-bad (refusal_of e).number r) ∙ left-suc;
+            bare = bare-place e 3 q;
+            good = record {};
             long = c.long;
           }
 
     -- all are read
-    pub capping-done : n ≤ p → CapsRead file at n (record { number = 0; next = next }) caps
+    pub capping-done : p ≡ n → CapsRead file at n (Ok next) caps
     unfolding numerals taken_of
-    capping-done l =
-        let e : p ≡ n = omega (arith, c.few) in
+    capping-done e =
         let z : n - p ≡ 0 = omega arith in
         record {
           is = ap (λ (q : ℕ). reading (take q caps) next) (sym e) ∙ ap (λ (k : ℕ). numerals wrong_m k file next (take p caps)) (sym z) ∙ c.left;
-          good = λ _. subst (λ (q : ℕ). bad_size (of_caps (take q caps)) ≡ false) e c.good;
+          bare = refl;
+          good = subst (λ (q : ℕ). bad_size (of_caps (take q caps)) ≡ false) e c.good;
           long = c.long;
         }

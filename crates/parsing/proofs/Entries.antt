@@ -19,20 +19,23 @@ use Rattle.counting.proofs.Lists.{length-each, each_append}
 use Rattle.counting.proofs.Tests.{by-test}
 use Rattle.counting.proofs.Least.{least-is}
 use Rattle.counting.proofs.Checks.{first-here, first-later, first-none, first_of, first-end}
-use Rattle.answers.specs.Answers.{placeless}
-use Rattle.answers.specs.declared.Refusal.{Refusal}
+use Rattle.std.specs.Prelude.{Option, None, Ok, Err}
+use Rattle.answers.specs.Answers.{placeless, refusal_of}
+use Rattle.answers.specs.declared.Refusal as given
+use Rattle.answers.specs.declared.Refusal.TheVariants as case
+use Rattle.answers.proofs.Answers.{refuses}
 use Rattle.racks.specs.Limits.{FREE}
 use Rattle.racks.specs.Racks.{Rack, slots, is_user}
 use Rattle.racks.specs.Table.{dest, free}
 use Rattle.racks.specs.Numbers.{bad_entry, repeats, bad_twice}
 use Rattle.racks.proofs.Geometry.{user-none}
-use Rattle.entries.specs.parts.Marks.{UsersMarked, Entered, entries_refusal, worse, first_twice, twice_to}
-use Rattle.entries.proofs.Marks.{Passed, passed_none, passed_cong, passed-more, bad-5, clean-5, worse-number, twice-none, entries-passed}
+use Rattle.entries.specs.parts.Marks.{UsersMarked, Entered, first_twice, twice_in, twice_to}
+use Rattle.entries.proofs.Marks.{Passed, passed_none, passed_cong, passed-more, bad-5, clean-5}
 use Rattle.numerals.specs.Numeral.{refused, Numerals, numerals}
 use Rattle.parsing.specs.File.{wrong_entry, entry_of, first_entries, bad_up_to, entry_place, refusal_at}
-use Rattle.parsing.specs.parts.Parsing.{entries, entries_checks, stopped_at, EntriesRead}
-use Rattle.numerals.specs.parts.Bounds.{ranged, outside}
-use Rattle.numerals.proofs.Numerals.{got, stopped, reading, passed-good, refused_by, numerals-go, numerals-stop, numerals-bad, numerals-number, numerals_longer, inside, outside-none, outside_high}
+use Rattle.parsing.specs.parts.Parsing.{entries, entries_checks, EntriesRead}
+use Rattle.numerals.specs.parts.Bounds.{ranged, outside, place_with}
+use Rattle.numerals.proofs.Numerals.{got, stopped, reading, passed-good, numerals-go, numerals-stop, numerals-bad, numerals-number, numerals_longer, inside, outside-none, outside_high}
 
 -- an entry of the file is wrong where the table's entry is bad
 module _ (racks : List Rack) (x : ℕ) where
@@ -80,15 +83,12 @@ module _ (raw : List ℕ) (x g : ℕ) (count : length raw ≡ g) where
   more-last = rw more-is (get_or_at (each entry_of raw) (entry_of x) [] FREE g (length-each entry_of raw ∙ count))
 
 -- g entries are read: they are at the front of the list and were passed, and what follows is read as from the start
-pub record Entering (racks : List Rack) (file : List ℕ) (at g next : ℕ) (places marks : List ℕ) (worst : ℕ) : Type 0 where
-  pub few : g ≤ slots racks
-  pub twice : Refusal
-  pub worst-is : worst ≡ twice.number
+pub record Entering (racks : List Rack) (file : List ℕ) (at g next : ℕ) (places marks : List ℕ) (twice : Option ℕ) : Type 0 where
   pub raw : List ℕ
   pub count : length raw ≡ g
   pub kept : take g places ≡ each entry_of raw
   pub left : (m : ℕ) → numerals (wrong_entry racks) m file next raw ≡ numerals (wrong_entry racks) (g + m) file at []
-  pub passed : Passed racks (each entry_of raw) marks twice g
+  pub passed : Passed racks (each entry_of raw) marks (twice_in twice) g
   pub long : length places ≡ 4096
 
 -- the entries of racks, from a position on
@@ -129,25 +129,22 @@ module _ (racks : List Rack) (file : List ℕ) (at : ℕ) where
       | no q ↦ rw (ne_eqb k 5 q, ← at-k, no-6 (suc g))
     ]
 
-    stopped-read : (places : List ℕ) → length places ≡ 4096 → EntriesRead racks file at (stopped_at k g) places
-    unfolding entries_checks stopped_at refusal_at
-    stopped-read places long =
+    stopped-read : (x : given.Refusal) → refusal_of x ≡ record { number = k; place = pick (eqb k 5) g 0 } → (places : List ℕ) → length places ≡ 4096 → EntriesRead racks file at (Err x) places
+    unfolding entries_checks refusal_at
+    stopped-read x is places long =
         record {
-          refusal_is = rw (all-k, first-here _ k _ (ap not (ne_eqb k 0 f)), place_is);
-          next-is = λ y. absurd (f y);
-          places-are = λ y. absurd (f y);
+          refusal_is = is ∙ rw (all-k, first-here _ k _ (ap not (ne_eqb k 0 f)), place_is);
+          next-is = record {};
+          places-are = record {};
           long = long;
         }
 
 module _ (racks : List Rack) (file : List ℕ) (at : ℕ) (places marks : List ℕ) where
   -- none is read yet
-  pub entering-none : UsersMarked racks marks → length places ≡ 4096 → Entering racks file at 0 at places marks 0
+  pub entering-none : UsersMarked racks marks → length places ≡ 4096 → Entering racks file at 0 at places marks None
   unfolding each
   entering-none m l =
       record {
-        few = omega arith;
-        twice = placeless 0;
-        worst-is = refl;
         raw = [];
         count = refl;
         kept = refl;
@@ -156,7 +153,7 @@ module _ (racks : List Rack) (file : List ℕ) (at : ℕ) (places marks : List �
         long = l;
       }
 
-  module _ (g next worst : ℕ) (c : Entering racks file at g next places marks worst) where
+  module _ (g next : ℕ) (twice : Option ℕ) (c : Entering racks file at g next places marks twice) where
     -- those that are read are not refused
     read_so_far : (firstly racks file at g).number ≡ 0
     unfolding numerals
@@ -170,14 +167,17 @@ module _ (racks : List Rack) (file : List ℕ) (at : ℕ) (places marks : List �
       ]
 
       -- the next one is refused
-      stops : (k : ℕ) → numerals (wrong_entry racks) 1 file next c.raw ≡ stopped k → (k ≡ 0 → ⊥) → EntriesRead racks file at (stopped_at k g) places
-      stops k e f = stopped-read racks file at g k l read_so_far (ap (firstly racks file at) (sym (add-one g)) ∙ sym (c.left 1) ∙ e) f places c.long
+      stops : (x : given.Refusal) → numerals (wrong_entry racks) 1 file next c.raw ≡ stopped (refusal_of x).number
+          → (refusal_of x).place ≡ pick (eqb (refusal_of x).number 5) g 0 → EntriesRead racks file at (Err x) places
+      stops x e p =
+          let n = (refusal_of x).number in
+          stopped-read racks file at g n l read_so_far (ap (firstly racks file at) (sym (add-one g)) ∙ sym (c.left 1) ∙ e) (refuses x) x (λ i. record { number = n; place = p i }) places c.long
 
       -- by its form, or one that no slot has
-      pub entering-stop : (k : ℕ) → refused k ≡ ranged 0 4096 5 file next → EntriesRead racks file at (stopped_at k g) places
-      unfolding ranged
-      entering-stop k e =
-          stops k (numerals-stop file next (wrong_entry racks) 0 c.raw (outside 0 4096 5) as-bad k e) (refused_by file next (outside 0 4096 5) k e).1
+      pub entering-stop : (x : given.Refusal) → refused (refusal_of x).number ≡ ranged 0 4096 5 file next
+          → (refusal_of x).place ≡ place_with (refusal_of (case.BadEntry g)) (refusal_of x).number → EntriesRead racks file at (Err x) places
+      unfolding ranged place_with
+      entering-stop x e p = stops x (numerals-stop file next (wrong_entry racks) 0 c.raw (outside 0 4096 5) as-bad (refusal_of x).number e) p
 
       -- one is between the limits
       module _ (x behind : ℕ) (e : got x behind ≡ ranged 0 4096 5 file next) where
@@ -190,8 +190,8 @@ module _ (racks : List Rack) (file : List ℕ) (at : ℕ) (places marks : List �
           abbrev now : List ℕ
           now = more c.raw x g c.count
 
-          passed-now : Passed racks now marks c.twice g
-          passed-now = passed_cong racks (each entry_of c.raw) now marks g (more-first c.raw x g c.count) c.twice c.passed
+          passed-now : Passed racks now marks (twice_in twice) g
+          passed-now = passed_cong racks (each entry_of c.raw) now marks g (more-first c.raw x g c.count) (twice_in twice) c.passed
 
           entered-now : Entered marks (dest now g) n after
           entered-now = subst (λ (v : ℕ). Entered marks v n after) (ey ∙ sym (more-last c.raw x g c.count)) entered
@@ -201,20 +201,19 @@ module _ (racks : List Rack) (file : List ℕ) (at : ℕ) (places marks : List �
           bad-now = ap (λ (v : ℕ). not (eqb v FREE or is_user racks v)) (more-last c.raw x g c.count) ∙ sym (wrong-same racks x entry-small)
 
           -- 5: it names no user slot
-          pub entering-5 : n ≡ 5 → EntriesRead racks file at (stopped_at 5 g) places
+          pub entering-5 : n ≡ 5 → (z : given.Refusal) → z ≡ case.BadEntry g → EntriesRead racks file at (Err z) places
           unfolding ranged
-          entering-5 q =
-              stops 5 (numerals-bad file next (wrong_entry racks) 0 c.raw (outside 0 4096 5) x behind 5 e
-              (wrong-5 racks x c.raw (sym bad-now ∙ bad-5 racks small now g marks c.twice passed-now n after entered-now q)) (λ z. omega arith)) (λ z. omega arith)
+          entering-5 q z is =
+              rw is
+              (stops (case.BadEntry g)
+              (numerals-bad file next (wrong_entry racks) 0 c.raw (outside 0 4096 5) x behind 5 e
+              (wrong-5 racks x c.raw (sym bad-now ∙ bad-5 racks small now g marks (twice_in twice) passed-now n after entered-now q)) (λ z. omega arith)) refl)
 
           -- else one more is read
-          pub entering-more : (n ≡ 5 → ⊥) → Entering racks file at (g + 1) behind (set places g y) after (worse worst n)
+          pub entering-more : (n ≡ 5 → ⊥) → (twice' : Option ℕ) → twice_in twice' ≡ first_twice (twice_in twice) n g → Entering racks file at (g + 1) behind (set places g y) after twice'
           unfolding ranged
-          entering-more f =
+          entering-more f twice' et =
               record {
-                few = omega arith;
-                twice = first_twice c.twice n g;
-                worst-is = ap (λ (k : ℕ). worse k n) c.worst-is ∙ worse-number now g c.twice passed-now.twice-is n;
                 raw = c.raw ++ x ∷ [];
                 count = length-append c.raw (x ∷ []) ∙ omega (arith, c.count);
                 kept =
@@ -226,40 +225,38 @@ module _ (racks : List Rack) (file : List ℕ) (at : ℕ) (places marks : List �
                 left = λ m.
                     let same : g + suc m ≡ g + 1 + m = omega arith in
                     sym (numerals-go file next (wrong_entry racks) m c.raw (outside 0 4096 5) x behind e
-                    (wrong-0 racks x c.raw (sym bad-now ∙ clean-5 racks small now g marks c.twice passed-now n after entered-now f)))
+                    (wrong-0 racks x c.raw (sym bad-now ∙ clean-5 racks small now g marks (twice_in twice) passed-now n after entered-now f)))
                     ∙ c.left (suc m)
                     ∙ ap (firstly racks file at) same;
-                passed = passed-more racks small now g marks c.twice passed-now n after entered-now f;
+                passed = rw et (passed-more racks small now g marks (twice_in twice) passed-now n after entered-now f);
                 long = length-set places g y ∙ c.long;
               }
 
     -- all are read
-    module _ (l : slots racks ≤ g) where
+    module _ (end : g ≡ slots racks) where
       read_all : reading c.raw next ≡ entries racks file at
       unfolding numerals entries
-      read_all = let e : g + 0 ≡ slots racks = omega (arith, c.few) in c.left 0 ∙ ap (firstly racks file at) e
+      read_all = let e : g + 0 ≡ slots racks = omega arith in c.left 0 ∙ ap (firstly racks file at) e
 
       table_is : take (slots racks) places ≡ each entry_of c.raw
-      table_is = let e : slots racks ≡ g = omega (arith, c.few) in ap (λ (k : ℕ). take k places) e ∙ c.kept
+      table_is = ap (λ (k : ℕ). take k places) (sym end) ∙ c.kept
 
-      entering-done : (x : Refusal) → x ≡ c.twice → EntriesRead racks file at (record { refusal = x; next = next }) places
+      -- 6 where one repeats an earlier one
+      twice-is : twice_in twice ≡ refusal_at racks file at (first (entries_checks (entries racks file at)))
       unfolding entries_checks bad_twice first refusal_at entry_place twice_to entries
-      entering-done x e =
+      twice-is =
           let n : length (each entry_of c.raw) ≡ g = length-each entry_of c.raw ∙ c.count in
-          record {
-            refusal_is = e ∙ rw (← read_all, n) (c.passed.twice-is ∙ by-test (some g (repeats (each entry_of c.raw))) (λ h. rw h) (λ h. rw h));
-            next-is = λ _. ap (λ (y : Numerals). y.next) read_all;
-            places-are = λ _. table_is ∙ ap (λ (y : Numerals). each entry_of y.values) read_all;
-            long = c.long;
-          }
+          rw (← read_all, n) (c.passed.twice-is ∙ by-test (some g (repeats (each entry_of c.raw))) (λ h. rw h) (λ h. rw h))
+
+      pub entering-6 : (x : given.Refusal) → refusal_of x ≡ twice_in twice → EntriesRead racks file at (Err x) places
+      entering-6 x e = record { refusal_is = e ∙ twice-is; next-is = record {}; places-are = record {}; long = c.long }
 
       -- none is refused
-      pub entering-none-left : worst ≡ 0 → (x : Refusal) → x ≡ placeless 0 → EntriesRead racks file at (record { refusal = x; next = next }) places
-      entering-none-left z x e = entering-done x (e ∙ sym (twice-none (each entry_of c.raw) g c.twice c.passed.twice-is (sym c.worst-is ∙ z)))
-
-      -- or one repeats an earlier one: the table that was read is searched for it
-      pub entering_again : (x : Refusal) (table : List ℕ) → table ≡ take (slots racks) places → x ≡ entries_refusal racks table
-          → EntriesRead racks file at (record { refusal = x; next = next }) places
-      entering_again x table et e =
-          let n : length (each entry_of c.raw) ≡ g = length-each entry_of c.raw ∙ c.count in
-          entering-done x (e ∙ ap (entries_refusal racks) (et ∙ table_is) ∙ sym (entries-passed racks (each entry_of c.raw) marks c.twice g (sym n) c.passed))
+      pub entering-done : placeless 0 ≡ twice_in twice → EntriesRead racks file at (Ok next) places
+      entering-done e =
+          record {
+            refusal_is = e ∙ twice-is;
+            next-is = ap (λ (y : Numerals). y.next) read_all;
+            places-are = table_is ∙ ap (λ (y : Numerals). each entry_of y.values) read_all;
+            long = c.long;
+          }

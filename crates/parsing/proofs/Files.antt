@@ -15,21 +15,22 @@ use Rattle.counting.specs.Checks.{Check, first}
 use Rattle.counting.proofs.Tests.{by-test, not_on, no_way}
 use Rattle.counting.proofs.Checks.{first-here, first-later, first-append, first_of, first-end}
 use Rattle.racks.specs.Racks.{of_caps, slots}
-use Rattle.racks.specs.Job.{racks_of, job_of, good_job, Sound}
-use Rattle.answers.specs.Answers.{placeless, answer, no_counts}
-use Rattle.answers.specs.declared.Refusal.{Refusal}
+use Rattle.racks.specs.Numbers.{rack_checks}
+use Rattle.racks.specs.Job.{racks_of, good_job, Sound}
+use Rattle.std.specs.Prelude.{Result, Ok, Err}
+use Rattle.answers.specs.Answers.{Refusal, placeless, refusal_of, refused}
+use Rattle.answers.specs.declared.Refusal as given
+use Rattle.answers.proofs.Answers.{refuses}
 use Rattle.racks.specs.declared.Job.{Job}
-use Rattle.answers.specs.declared.Answer.{Answer}
 use Rattle.racks.proofs.Places.{NoPlace, placeless-alone}
 use Rattle.racks.proofs.Caps.{slots_small}
-use Rattle.racks.proofs.Jobs.{job_good, caps_again, caps-sound}
+use Rattle.racks.proofs.Jobs.{caps_again, caps-sound}
 use Rattle.numerals.specs.Numeral.{Numerals, numerals}
 use Rattle.numerals.proofs.Numerals.{numerals-number}
 use Rattle.parsing.specs.File.{wrong_n, wrong_b, wrong_m, entry_of, read_n, read_b, read_m, read_entries, file_racks, file_bytes, file_places, file_cards, file_checks, entry_place, refusal_at, file_refusal}
-use Rattle.parsing.specs.Answers.{refused_file, done_file, file_answer}
-use Rattle.parsing.specs.parts.Parsing.{head_checks, Headed, entries, entries_checks, EntriesRead, left_of, end_number, Parsed}
-use Rattle.parsing.specs.declared.FileAnswer.{FileAnswer}
-use Rattle.parsing.specs.declared.parts.TableRead.{TableRead}
+use Rattle.parsing.specs.Answers.{FileAnswer, refused_file, done_file, file_answer, file_answered}
+use Rattle.parsing.specs.parts.Parsing.{head_checks, Headed, HeadRead, entries, entries_checks, EntriesRead, left_of, end_number, Parsed}
+use Rattle.parsing.specs.declared.FileJob.{FileJob}
 use Rattle.parsing.specs.declared.parts.Head.{Head}
 
 -- no check that applies gives 0
@@ -94,12 +95,12 @@ module _ (file : List ℕ) where
   unfolding read_m wrong_m
   M-placeless = form-placeless file wrong_m (λ before x. placeless-alone _ 3 (refl, refl)) (get_or (read_n file).values 0 0) (read_b file).next
 
-  pub head-placeless : NoPlace (first (head_checks file))
+  head-placeless : NoPlace (first (head_checks file))
   unfolding head_checks
   head-placeless = first_of NoPlace _ (read_n file).number _ (λ _. N-placeless)
       (first_of NoPlace _ (read_b file).number _ (λ _. B-placeless) (first_of NoPlace _ (read_m file).number [] (λ _. M-placeless) (first-end NoPlace (refl, refl))))
 
-  pub end-placeless : (at want : ℕ) → NoPlace (end_number file at want)
+  end-placeless : (at want : ℕ) → NoPlace (end_number file at want)
   unfolding end_number
   end-placeless at want = first_of NoPlace _ 15 _ (λ _. (refl, refl)) (placeless-alone _ 16 (refl, refl))
 
@@ -108,7 +109,7 @@ module _ (file : List ℕ) where
   placeless-file n p = rw (p.0, p.1)
 
   -- a front that is refused
-  pub file-head : (n : ℕ) → n ≡ first (head_checks file) → (n ≡ 0 → ⊥) → n ≡ first (file_checks file)
+  file-head : (n : ℕ) → n ≡ first (head_checks file) → (n ≡ 0 → ⊥) → n ≡ first (file_checks file)
   file-head n e f = e ∙ sym (ap first file-checks ∙ first-append (head_checks file) _ (λ z. f (e ∙ z)))
 
   module _ (zh : first (head_checks file) ≡ 0) where
@@ -116,27 +117,32 @@ module _ (file : List ℕ) where
     past_head = ap first file-checks ∙ sure-past _ head_sure zh
 
     -- entries that are refused
-    pub file-entries : (n : ℕ) → n ≡ first (entries_checks (read_entries file)) → (n ≡ 0 → ⊥) → n ≡ first (file_checks file)
+    file-entries : (n : ℕ) → n ≡ first (entries_checks (read_entries file)) → (n ≡ 0 → ⊥) → n ≡ first (file_checks file)
     file-entries n e f = e ∙ sym (past_head ∙ first-append (entries_checks (read_entries file)) _ (λ z. f (e ∙ z)))
 
     -- the card bytes
-    pub file-end : (at want : ℕ) → first (entries_checks (read_entries file)) ≡ 0 → at ≡ (read_entries file).next → want ≡ slots (file_racks file) * file_bytes file
+    file-end : (at want : ℕ) → first (entries_checks (read_entries file)) ≡ 0 → at ≡ (read_entries file).next → want ≡ slots (file_racks file) * file_bytes file
         → end_number file at want ≡ first (file_checks file)
     unfolding end_number left_of file_cards
     file-end at want ze ep ew = rw (ep, ew) (sym (past_head ∙ sure-past _ entries_sure ze))
 
--- an answer, by its fields
-abbrev made : Answer → ℕ → ℕ → ℕ → ℕ → FileAnswer
-made a n b s p = record { answer = a; racks = n; bytes = b; slots = s; start = p }
+-- a job that is read, by its fields
+abbrev made : ℕ → ℕ → ℕ → ℕ → FileJob
+made n b s p = record { racks = n; bytes = b; slots = s; start = p }
 
-same-made : {a a' : Answer} {n n' b b' s s' p p' : ℕ} → a ≡ a' → n ≡ n' → b ≡ b' → s ≡ s' → p ≡ p' → made a n b s p ≡ made a' n' b' s' p'
-same-made ea en eb es ep = rw (ea, en, eb, es, ep)
+same-made : {n n' b b' s s' p p' : ℕ} → n ≡ n' → b ≡ b' → s ≡ s' → p ≡ p' → file_answered (Ok (made n b s p)) ≡ file_answered (Ok (made n' b' s' p'))
+same-made en eb es ep = rw (en, eb, es, ep)
+
+-- the capacities read are in order
+pub head-good : (file : List ℕ) (head : Head) (caps : List ℕ) → Headed file head caps → first (rack_checks (of_caps (take head.racks caps))) ≡ 0
+unfolding file_racks
+head-good file head caps h = rw h.caps-are h.good
 
 -- the job of the capacities read
-module _ (file : List ℕ) (head : Head) (caps : List ℕ) (h : Headed file head caps) (job : Job) (is : job ≡ job_of (of_caps (take head.racks caps))) where
+module _ (file : List ℕ) (head : Head) (caps : List ℕ) (h : Headed file head caps) (job : Job) (is : job ≡ good_job (of_caps (take head.racks caps))) where
   job_is : job ≡ good_job (file_racks file)
   unfolding file_racks
-  job_is = is ∙ ap (λ (l : List ℕ). job_of (of_caps l)) h.caps-are ∙ job_good (file_racks file) h.good
+  job_is = is ∙ ap (λ (l : List ℕ). good_job (of_caps l)) h.caps-are
 
   -- it is sound
   pub job-sound : Sound job
@@ -162,36 +168,38 @@ module _ (file : List ℕ) (head : Head) (caps : List ℕ) (h : Headed file head
   want-small = mul-le-mul job-small h.small
 
   -- S·B is the file's
-  pub want_is : job.slots * head.bytes ≡ slots (file_racks file) * file_bytes file
+  want_is : job.slots * head.bytes ≡ slots (file_racks file) * file_bytes file
   want_is = rw (job-slots, h.bytes-are)
 
   -- the entries of that job are the file's
-  module _ (read : TableRead) (places : List ℕ) (r : EntriesRead (racks_of job) file head.next read places) where
+  module _ (read : Result ℕ given.Refusal) (places : List ℕ) (r : EntriesRead (racks_of job) file head.next read places) where
     entries-are : entries (racks_of job) file head.next ≡ read_entries file
     unfolding entries read_entries
     entries-are = rw (job-racks, h.next-is)
 
     -- 14, 15, 20, 5 or 6, and its place
-    pub table_refusal : read.refusal ≡ file_refusal file (first (entries_checks (read_entries file)))
+    table_refusal : refused read ≡ file_refusal file (first (entries_checks (read_entries file)))
     unfolding file_refusal
     table_refusal =
         r.refusal_is
         ∙ ap (λ (x : Numerals). refusal_at (racks_of job) file head.next (first (entries_checks x))) entries-are
         ∙ rw (job-racks, h.next-is)
 
-    pub table-number : read.refusal.number ≡ first (entries_checks (read_entries file))
+    table-number : (refused read).number ≡ first (entries_checks (read_entries file))
     unfolding file_refusal refusal_at
     table-number = ap (λ (x : Refusal). x.number) table_refusal
 
-    -- where they are done, the position behind them
-    pub table-next : read.refusal.number ≡ 0 → read.next ≡ (read_entries file).next
-    table-next z = rw (← entries-are) (r.next-is z)
+  -- where they are done
+  module _ (start : ℕ) (places : List ℕ) (r : EntriesRead (racks_of job) file head.next (Ok start) places) where
+    -- the position behind them
+    table-next : start ≡ (read_entries file).next
+    table-next = rw (← entries-are (Ok start) places r) r.next-is
 
     -- and the places table
-    pub table-places : read.refusal.number ≡ 0 → take job.slots places ≡ file_places file
+    table-places : take job.slots places ≡ file_places file
     unfolding file_places
-    table-places z =
-        ap (λ (n : ℕ). take n places) (job-slots ∙ ap slots (sym job-racks)) ∙ r.places-are z ∙ ap (λ (x : Numerals). each entry_of x.values) entries-are
+    table-places =
+        ap (λ (n : ℕ). take n places) (job-slots ∙ ap slots (sym job-racks)) ∙ r.places-are ∙ ap (λ (x : Numerals). each entry_of x.values) (entries-are (Ok start) places r)
 
 -- the answer, by its number
 module _ (file : List ℕ) (n : ℕ) where
@@ -208,28 +216,56 @@ module _ (file : List ℕ) (n : ℕ) where
 -- the whole file: refused, and done
 module _ (file caps places : List ℕ) (long : (length caps ≡ 64) × (length places ≡ 4096)) where
   -- a refusal: the lists say nothing
-  pub parsed-refused : (n : ℕ) (x : Refusal) (found : FileAnswer) → found ≡ refused_file x → x ≡ file_refusal file n → n ≡ first (file_checks file) → (n ≡ 0 → ⊥) → Parsed file found caps places
-  unfolding file_refusal refusal_at
-  parsed-refused n x found e ex q f =
-      let z' : found.answer.number ≡ n = ap (λ (r : FileAnswer). r.answer.number) e ∙ ap (λ (r : Refusal). r.number) ex in
+  parsed-refused : (n : ℕ) (e : given.Refusal) → refusal_of e ≡ file_refusal file n → (n ≡ 0 → ⊥) → n ≡ first (file_checks file) → Parsed file (Err e) caps places
+  parsed-refused n e ex f q =
       record {
-        is = e ∙ ap refused_file ex ∙ answer-refused file n f ∙ ap (file_answer file) q;
-        caps-are = λ z. absurd (f (sym z' ∙ z));
-        places-are = λ z. absurd (f (sym z' ∙ z));
-        few = rw e (omega arith, omega arith);
+        is = ap refused_file ex ∙ answer-refused file n f ∙ ap (file_answer file) q;
+        caps-are = record {};
+        places-are = record {};
+        few = record {};
         long = long;
       }
 
-  module _ (head : Head) (h : Headed file head caps) (job : Job) (is : job ≡ job_of (of_caps (take head.racks caps)))
-      (read : TableRead) (r : EntriesRead (racks_of job) file head.next read places) (z : read.refusal.number ≡ 0)
-      (a : Answer) (ea : a ≡ answer (placeless 0) no_counts) (q : 0 ≡ first (file_checks file)) where
-    -- done: the answer, and both lists
-    pub parsed-done : Parsed file (made a head.racks head.bytes job.slots read.next) caps places
-    parsed-done =
-        record {
-          is = rw (← q) (same-made ea h.racks-are h.bytes-are (job-slots file head caps h job is) (table-next file head caps h job is read places r z));
-          caps-are = λ _. h.caps-are;
-          places-are = λ _. table-places file head caps h job is read places r z;
-          few = (h.few, job-small file head caps h job is);
-          long = long;
-        }
+  -- that of the front
+  pub parsed-head : (e : given.Refusal) (caps' : List ℕ) → HeadRead file (Err e) caps' → Parsed file (Err e) caps places
+  parsed-head e caps' h =
+      let n = first (head_checks file) in
+      let f : n ≡ 0 → ⊥ = λ z. refuses e (ap (λ (x : Refusal). x.number) h.refusal_is ∙ z) in
+      parsed-refused n e (h.refusal_is ∙ placeless-file file n (head-placeless file)) f (file-head file n refl f)
+
+  module _ (head : Head) (caps' : List ℕ) (h : HeadRead file (Ok head) caps') (job : Job) (is : job ≡ good_job (of_caps (take head.racks caps'))) where
+    none-head : first (head_checks file) ≡ 0
+    none-head = sym (ap (λ (x : Refusal). x.number) h.refusal_is)
+
+    -- that of the entries
+    pub parsed-table : (e : given.Refusal) → EntriesRead (racks_of job) file head.next (Err e) places → Parsed file (Err e) caps places
+    parsed-table e r =
+        let n = first (entries_checks (read_entries file)) in
+        let t : (refusal_of e).number ≡ n = table-number file head caps' h.headed job is (Err e) places r in
+        let f : n ≡ 0 → ⊥ = λ z. refuses e (t ∙ z) in
+        parsed-refused n e (table_refusal file head caps' h.headed job is (Err e) places r) f (file-entries file none-head n refl f)
+
+    module _ (start : ℕ) (r : EntriesRead (racks_of job) file head.next (Ok start) places) where
+      -- what the card bytes give decides
+      end-file : end_number file start (job.slots * head.bytes) ≡ first (file_checks file)
+      end-file =
+          file-end file none-head start (job.slots * head.bytes) (sym (table-number file head caps' h.headed job is (Ok start) places r))
+          (table-next file head caps' h.headed job is start places r) (want_is file head caps' h.headed job is)
+
+      -- that of the card bytes
+      pub parsed-end : (e : given.Refusal) → refusal_of e ≡ placeless (end_number file start (job.slots * head.bytes)) → Parsed file (Err e) caps places
+      parsed-end e x =
+          let n = end_number file start (job.slots * head.bytes) in
+          parsed-refused n e (x ∙ placeless-file file n (end-placeless file start (job.slots * head.bytes))) (λ z. refuses e (ap (λ (y : Refusal). y.number) x ∙ z)) end-file
+
+      -- done: the answer, and both lists
+      pub parsed-done : caps ≡ caps' → placeless 0 ≡ placeless (end_number file start (job.slots * head.bytes)) → Parsed file (Ok (made head.racks head.bytes job.slots start)) caps places
+      parsed-done ec x =
+          let q : 0 ≡ first (file_checks file) = ap (λ (y : Refusal). y.number) x ∙ end-file in
+          record {
+            is = rw (← q) (same-made h.headed.racks-are h.headed.bytes-are (job-slots file head caps' h.headed job is) (table-next file head caps' h.headed job is start places r));
+            caps-are = ap (λ (l : List ℕ). take head.racks l) ec ∙ h.headed.caps-are;
+            places-are = table-places file head caps' h.headed job is start places r;
+            few = (h.headed.few, job-small file head caps' h.headed job is);
+            long = long;
+          }

@@ -7,8 +7,7 @@ use Rattle.counting.specs.Checks.{Check, first, known, done}
 use Rattle.racks.specs.Limits.{FREE}
 use Rattle.racks.specs.Racks.{Rack, of_caps, slots, is_user}
 use Rattle.racks.specs.Numbers.{bad_count, bad_bytes, bad_size, bad_twice, place_for}
-use Rattle.answers.specs.Answers.{no_counts, answer, written}
-use Rattle.answers.specs.declared.Refusal.{Refusal}
+use Rattle.answers.specs.Answers.{Refusal, no_counts, answer, written}
 use Rattle.answers.specs.declared.Answer.{Answer}
 use Rattle.numerals.specs.Numeral.{Numerals, numerals}
 

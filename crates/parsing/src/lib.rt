@@ -1,14 +1,11 @@
 // A job file taken apart: its capacities, its entries and its card bytes.
 #![tactic(auto)]
 
-use answers::Answer;
-
 pub mod parts;
 
-// What the file reader gives: N, B, S and where the card bytes begin; all of these 0 on a refusal.
+// What the file reader gives: N, B, S and where the card bytes begin.
 #[derive(Clone, Copy)]
-pub struct FileAnswer {
-    pub answer: Answer,
+pub struct FileJob {
     pub racks: usize,
     pub bytes: usize,
     pub slots: usize,

@@ -3,8 +3,8 @@ use mathlib.Core.Path.{◌∙◌}
 use Rattle.jobfile.proofs.Cards.{cards-refused, cards-done}
 use Rattle.jobfile.proofs.card_bytes.Goals as goal
 
-pub returns-then-found-ne0 : goal.returns-then-found-ne0
-returns-then-found-ne0 c = cards-refused c.args.file.now _ c.if-found-ne0.true
+pub returns-in-Ok : goal.returns-in-Ok
+returns-in-Ok c = rw c.in-Ok.is (c.rest_of.ensures ∙ cards-done c.args.file.now c.in-Ok.job)
 
-pub returns : goal.returns
-returns c = c.rest_of.ensures ∙ cards-done c.args.file.now _ c.if-found-ne0.false
+pub returns-in-Err : goal.returns-in-Err
+returns-in-Err c = rw c.in-Err.is (cards-refused c.args.file.now _)

@@ -1,7 +1,8 @@
 -- A numeral between two limits. Assumes nothing: these are definitions.
-use Rattle.std.specs.Prelude.{List, [], ◌∷◌, ℕ, ltb}
+use Rattle.std.specs.Prelude.{List, [], ◌∷◌, ℕ, eqb, ltb}
 use Rattle.counting.specs.Tests.{◌or◌, pick}
 use Rattle.counting.specs.Checks.{first, known, done}
+use Rattle.answers.specs.Answers.{Refusal}
 use Rattle.numerals.specs.Numeral.{Got, refused, numeral}
 
 -- a numeral read and checked: first its form, then by `bad`
@@ -18,3 +19,7 @@ outside low high n x = first ((ltb x low or ltb high x, n) ∷ [])
 -- a numeral between two limits
 unfoldable pub ranged : ℕ → ℕ → ℕ → List ℕ → ℕ → Got
 ranged low high n = checked_numeral (outside low high n)
+
+-- the place that goes with number n: that of the refusal whose number it is; a numeral that is refused for its form has none
+unfoldable pub place_with : Refusal → ℕ → ℕ
+place_with refusal n = pick (eqb n refusal.number) refusal.place 0

@@ -1,31 +1,52 @@
 -- `numerals::parts::bounded_numeral` meets its contract. Assumes nothing.
-use mathlib.Core.Path.{sym, ap, ◌∙◌}
-use native.Mathlib.Omega.{arith}
+use Rattle.std.proofs.lemmas.Result.{err_from_is_err_and}
+use Rattle.answers.specs.Answers.{refusal_of}
+use Rattle.answers.proofs.Answers.{refuses}
 use Rattle.numerals.specs.Numeral.{got_of}
 use Rattle.numerals.specs.parts.Bounds.{ranged, outside}
-use Rattle.numerals.proofs.Numerals.{checked-form, checked_value, checked-bad, outside_low, outside_high, outside-none}
+use Rattle.numerals.proofs.Numerals.{checked-form, checked_value, checked-bad, outside_low, outside_high, outside-none, own-place, form-place}
 use Rattle.numerals.proofs.parts.bounded_numeral.Goals as goal
 
-pub returns-in_default : goal.returns-in_default
+pub returns-in_err-got : goal.returns-in_err-got
 unfolding got_of ranged
-returns-in_default c =
-    let e = ap got_of c.in_default.is in
-    e ∙ checked-form c.args.file.now c.args.at (outside c.args.low c.args.high c.args.n) _ (sym e ∙ c.next_numeral-got.ensures)
+returns-in_err-got c =
+    let p = err_from_is_err_and c.from_residual.result c.from_residual.ensures.1 in
+    let a = c.args in
+    let e = c.in_err-got.ensures in
+    rw (p.1, p.2) (record {
+      number = checked-form a.file.now a.at (outside a.low a.high (refusal_of a.refusal).number) _ e;
+      place = form-place a.file.now a.at _ a.refusal e;
+    })
 
-pub returns-then-x-low : goal.returns-then-x-low
+pub returns-then-got-low : goal.returns-then-got-low
 unfolding got_of ranged
-returns-then-x-low c =
-    checked-bad c.args.file.now c.args.at (outside c.args.low c.args.high c.args.n) c.in-Value.x c.in-Value.field-1 c.args.n
-    (sym (ap got_of c.in-Value.is) ∙ c.next_numeral-got.ensures) (outside_low c.args.low c.args.high c.args.n c.in-Value.x c.if-x-low.true) (λ z. omega (arith, c.requires))
+returns-then-got-low c =
+    let a = c.args in
+    let n = (refusal_of a.refusal).number in
+    let g = c.in_ok-got.got in
+    record {
+      number = checked-bad a.file.now a.at (outside a.low a.high n) g.value g.next n c.in_ok-got.ensures (outside_low a.low a.high n g.value c.if-got-low.true) (refuses a.refusal);
+      place = own-place (refusal_of a.refusal);
+    }
 
-pub returns-then-high-x : goal.returns-then-high-x
+pub returns-then-high-got : goal.returns-then-high-got
 unfolding got_of ranged
-returns-then-high-x c =
-    checked-bad c.args.file.now c.args.at (outside c.args.low c.args.high c.args.n) c.in-Value.x c.in-Value.field-1 c.args.n
-    (sym (ap got_of c.in-Value.is) ∙ c.next_numeral-got.ensures) (outside_high c.args.low c.args.high c.args.n c.in-Value.x c.if-high-x.true) (λ z. omega (arith, c.requires))
+returns-then-high-got c =
+    let a = c.args in
+    let n = (refusal_of a.refusal).number in
+    let g = c.in_ok-got.got in
+    record {
+      number = checked-bad a.file.now a.at (outside a.low a.high n) g.value g.next n c.in_ok-got.ensures (outside_high a.low a.high n g.value c.if-high-got.true) (refuses a.refusal);
+      place = own-place (refusal_of a.refusal);
+    }
 
 pub returns : goal.returns
 unfolding got_of ranged
 returns c =
-    checked_value c.args.file.now c.args.at (outside c.args.low c.args.high c.args.n) c.in-Value.x c.in-Value.field-1
-    (sym (ap got_of c.in-Value.is) ∙ c.next_numeral-got.ensures) (outside-none c.args.low c.args.high c.args.n c.in-Value.x c.if-x-low.false c.if-high-x.false)
+    let a = c.args in
+    let n = (refusal_of a.refusal).number in
+    let g = c.in_ok-got.got in
+    record {
+      number = checked_value a.file.now a.at (outside a.low a.high n) g.value g.next c.in_ok-got.ensures (outside-none a.low a.high n g.value c.if-got-low.false c.if-high-got.false);
+      place = record {};
+    }
