@@ -2,19 +2,23 @@
 use mathlib.Core.Path.{◌≡◌, refl, sym, ap, ◌∙◌}
 use Prim.Native.Nat.{ℕ}
 use lib.Dec.{eqb}
+use Rattle.std.specs.Prelude.{Err}
 use Rattle.counting.specs.Tests.{pick}
-use Rattle.slots.specs.declared.Kind.{Kind}
-use Rattle.slots.specs.declared.Kind.TheVariants as kind
-use Rattle.slots.specs.declared.State.{State}
-use Rattle.slots.specs.declared.State.TheVariants as state
-use Rattle.slots.specs.declared.SlotAnswer as slots
+use Rattle.answers.specs.Answers.{refusal_of}
+use Rattle.answers.specs.declared.Refusal as given
+use Rattle.answers.proofs.Answers.{plain}
+use Rattle.slots.specs.Told.{slot_answered}
+use Rattle.slots.specs.Told as slots
+use Rattle.slots.specs.Told.{Kind, State}
+use Rattle.slots.specs.Told.Kind.{User, Spare, None as NoKind}
+use Rattle.slots.specs.Told.State.{Free, Settled, Unsettled, Away, None as NoState}
 use Rattle.flat.specs.declared.Answer.{Answer}
 use Rattle.flat.specs.declared.SlotAnswer.{SlotAnswer}
 use Rattle.flat.specs.declared.FileAnswer.{FileAnswer}
 use Rattle.flat.specs.declared.SizeAnswer.{SizeAnswer}
 use Rattle.answers.specs.declared.Answer as layers
-use Rattle.parsing.specs.declared.FileAnswer as jobfile
-use Rattle.answers.specs.declared.SizeAnswer as sizes
+use Rattle.parsing.specs.Answers as jobfile
+use Rattle.answers.specs.Answers as sizes
 use Rattle.flat.specs.Flat.{answer_of, kind_number, state_number, rack_number, slot_numbers, file_of, size_of}
 
 -- two answers of five numbers that are one answer of the layers are equal
@@ -52,29 +56,29 @@ size_same a b e =
 
 -- the kind that a number stands for
 unfoldable pub kind_of : ℕ → Kind
-kind_of n = pick (eqb n 1) kind.User (pick (eqb n 2) kind.Spare kind.None)
+kind_of n = pick (eqb n 1) User (pick (eqb n 2) Spare NoKind)
 
 -- the state that two numbers stand for
 unfoldable pub state_of : ℕ → ℕ → State
 state_of n p =
-    pick (eqb n 1) state.Free
-    (pick (eqb n 2) state.Settled
-    (pick (eqb n 3) state.Unsettled
-    (pick (eqb n 4) (state.Away p) state.None)))
+    pick (eqb n 1) Free
+    (pick (eqb n 2) Settled
+    (pick (eqb n 3) Unsettled
+    (pick (eqb n 4) (Away p) NoState)))
 
 pub kind-back : (k : Kind) → kind_of (kind_number k) ≡ k
 unfolding kind_of kind_number
-kind-back kind.User = refl
-kind-back kind.Spare = refl
-kind-back kind.None = refl
+kind-back User = refl
+kind-back Spare = refl
+kind-back NoKind = refl
 
 pub state-back : (s : State) → state_of (state_number s) (rack_number s) ≡ s
 unfolding state_of state_number rack_number
-state-back state.Free = refl
-state-back state.Settled = refl
-state-back state.Unsettled = refl
-state-back (state.Away p) = refl
-state-back state.None = refl
+state-back Free = refl
+state-back Settled = refl
+state-back Unsettled = refl
+state-back (Away p) = refl
+state-back NoState = refl
 
 -- the slot question's answer that a kind, a state and the rest of another answer are
 abbrev pub with_slot : slots.SlotAnswer → Kind → State → slots.SlotAnswer
@@ -96,3 +100,11 @@ slot-back x =
 -- two answers of the slot question that are given as the same eight numbers are equal
 pub slot_same : (x y : slots.SlotAnswer) → slot_numbers x ≡ slot_numbers y → x ≡ y
 slot_same x y e = sym (slot-back x) ∙ ap slot_of e ∙ slot-back y
+
+-- the numbers of a slot question that is refused
+pub slot-refused : (e : given.Refusal)
+    → record { number = (refusal_of e).number; place = (refusal_of e).place; phases = 0; moves = 0; copies = 0; kind = 0; state = 0; rack = 0 } ≡ slot_numbers (slot_answered (Err e))
+unfolding kind_number state_number rack_number
+slot-refused e =
+    ap (λ (a : layers.Answer).
+    record { number = a.number; place = a.place; phases = a.tally.phases; moves = a.tally.moves; copies = a.tally.copies; kind = 0; state = 0; rack = 0 }) (plain (refusal_of e))

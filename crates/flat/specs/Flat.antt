@@ -1,13 +1,12 @@
 -- The layers' answers and the plain numbers that C is given, one definition for each struct. Assumes nothing: these are definitions.
 use Rattle.std.specs.Prelude.{ℕ}
 use Rattle.answers.specs.declared.Answer as layers
-use Rattle.slots.specs.declared.Kind.{Kind}
-use Rattle.slots.specs.declared.Kind.TheVariants as kind
-use Rattle.slots.specs.declared.State.{State}
-use Rattle.slots.specs.declared.State.TheVariants as state
-use Rattle.slots.specs.declared.SlotAnswer as slots
-use Rattle.parsing.specs.declared.FileAnswer as jobfile
-use Rattle.answers.specs.declared.SizeAnswer as sizes
+use Rattle.slots.specs.Told as slots
+use Rattle.slots.specs.Told.{Kind, State}
+use Rattle.slots.specs.Told.Kind.{User, Spare, None as NoKind}
+use Rattle.slots.specs.Told.State.{Free, Settled, Unsettled, Away, None as NoState}
+use Rattle.parsing.specs.Answers as jobfile
+use Rattle.answers.specs.Answers as sizes
 use Rattle.flat.specs.declared.Answer.{Answer}
 use Rattle.flat.specs.declared.SlotAnswer.{SlotAnswer}
 use Rattle.flat.specs.declared.FileAnswer.{FileAnswer}
@@ -19,25 +18,25 @@ answer_of a = record { number = a.number; place = a.place; tally = record { phas
 
 -- the number of a kind: 1 user slot, 2 spare, 0 none
 unfoldable pub kind_number : Kind → ℕ
-kind_number kind.User = 1
-kind_number kind.Spare = 2
-kind_number kind.None = 0
+kind_number User = 1
+kind_number Spare = 2
+kind_number NoKind = 0
 
 -- the number of a state: 1 free, 2 settled, 3 on its rack but unsettled, 4 away, 0 none
 unfoldable pub state_number : State → ℕ
-state_number state.Free = 1
-state_number state.Settled = 2
-state_number state.Unsettled = 3
-state_number (state.Away p) = 4
-state_number state.None = 0
+state_number Free = 1
+state_number Settled = 2
+state_number Unsettled = 3
+state_number (Away p) = 4
+state_number NoState = 0
 
 -- the rack to which a card is away; 0 in every other state
 unfoldable pub rack_number : State → ℕ
-rack_number state.Free = 0
-rack_number state.Settled = 0
-rack_number state.Unsettled = 0
-rack_number (state.Away p) = p
-rack_number state.None = 0
+rack_number Free = 0
+rack_number Settled = 0
+rack_number Unsettled = 0
+rack_number (Away p) = p
+rack_number NoState = 0
 
 -- the eight numbers that the slot question's answer is
 abbrev pub slot_numbers : slots.SlotAnswer → SlotAnswer
