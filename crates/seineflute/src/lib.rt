@@ -55,24 +55,21 @@ pub fn seineflute_limits() -> Limits
 pub fn seineflute_check_table(caps: &[u16], places: &[u16]) -> Answer
     ensures { CheckTable caps.now places.now (answer_of result) }
 {
-    let answer = tables::check_table(caps, places);
-    flat::parts::numbers_of(answer)
+    Answer::from(tables::check_table(caps, places))
 }
 
 // Slot question.
 pub fn seineflute_slot_question(caps: &[u16], places: &[u16], slot: usize) -> SlotAnswer
     ensures { SlotNumbers caps.now places.now slot result }
 {
-    let found = slots::slot_question(caps, places, slot);
-    flat::parts::slot_numbers(found)
+    SlotAnswer::from(slots::slot_question(caps, places, slot))
 }
 
 // Phase plan.
 pub fn seineflute_phase_plan(caps: &[u16], places: &[u16], lent: &mut [u16]) -> Answer
     ensures { PhasePlan caps.now places.now lent.old (answer_of result) lent.new }
 {
-    let answer = planner::phase_plan(caps, places, lent);
-    flat::parts::numbers_of(answer)
+    Answer::from(planner::phase_plan(caps, places, lent))
 }
 
 // One move.
@@ -86,8 +83,7 @@ pub fn seineflute_one_move(
 ) -> Answer
     ensures { OneMove caps.now b (held places.old cards.old) (from, to) (outcome_of (answer_of result) places.new cards.new) }
 {
-    let answer = mover::one_move(caps, b, places, cards, from, to);
-    flat::parts::numbers_of(answer)
+    Answer::from(mover::one_move(caps, b, places, cards, from, to))
 }
 
 // Budgeted moves.
@@ -100,16 +96,14 @@ pub fn seineflute_budgeted_moves(
 ) -> Answer
     ensures { BudgetedMoves caps.now b (held places.old cards.old) k (outcome_of (answer_of result) places.new cards.new) }
 {
-    let answer = budgets::budgeted_moves(caps, b, places, cards, k);
-    flat::parts::numbers_of(answer)
+    Answer::from(budgets::budgeted_moves(caps, b, places, cards, k))
 }
 
 // Copy list.
 pub fn seineflute_copy_list(caps: &[u16], places: &[u16], lent: &mut [u16]) -> Answer
     ensures { CopyList caps.now places.now lent.old (answer_of result) lent.new }
 {
-    let answer = copies::copy_list(caps, places, lent);
-    flat::parts::numbers_of(answer)
+    Answer::from(copies::copy_list(caps, places, lent))
 }
 
 // Shuffle.
@@ -121,24 +115,21 @@ pub fn seineflute_shuffle_cards(
 ) -> Answer
     ensures { ShuffleCards caps.now b (held places.old cards.old) (outcome_of (answer_of result) places.new cards.new) }
 {
-    let answer = shuffler::shuffle_cards(caps, b, places, cards);
-    flat::parts::numbers_of(answer)
+    Answer::from(shuffler::shuffle_cards(caps, b, places, cards))
 }
 
 // Whole run.
 pub fn seineflute_whole_run(caps: &[u16], b: usize, places: &mut [u16], cards: &mut [u8]) -> Answer
     ensures { WholeRun caps.now b (held places.old cards.old) (outcome_of (answer_of result) places.new cards.new) }
 {
-    let answer = runner::whole_run(caps, b, places, cards);
-    flat::parts::numbers_of(answer)
+    Answer::from(runner::whole_run(caps, b, places, cards))
 }
 
 // Job file. A struct with a reference has no form in C, so the caller takes the card bytes from their start on.
 pub fn seineflute_read_file(file: &[u8], caps: &mut [u16], places: &mut [u16]) -> FileAnswer
     ensures { ReadFile file.now caps.old places.old (file_of result) caps.new places.new }
 {
-    let found = jobfile::read_file(file, caps, places);
-    flat::parts::file_numbers(found)
+    FileAnswer::from(jobfile::read_file(file, caps, places))
 }
 
 // Write file.
@@ -151,14 +142,12 @@ pub fn seineflute_write_file(
 ) -> SizeAnswer
     ensures { WriteFile caps.now b places.now cards.now out.old (size_of result) out.new }
 {
-    let found = jobwriter::write_file(caps, b, places, cards, out);
-    flat::parts::size_numbers(found)
+    SizeAnswer::from(jobwriter::write_file(caps, b, places, cards, out))
 }
 
 // The listing.
 pub fn seineflute_list_job(file: &[u8], out: &mut [u8]) -> SizeAnswer
     ensures { ListJob file.now out.old (size_of result) out.new }
 {
-    let found = listing::list_job(file, out);
-    flat::parts::size_numbers(found)
+    SizeAnswer::from(listing::list_job(file, out))
 }

@@ -5,4 +5,4 @@ use Rattle.moves.specs.Moves.{outcome_of}
 use Rattle.seineflute.proofs.seineflute_budgeted_moves.Goals as goal
 
 pub returns : goal.returns
-returns c = ap (λ (a : Answer). outcome_of a c.budgeted_moves-answer.new.places c.budgeted_moves-answer.new.cards) c.numbers_of.ensures ∙ c.budgeted_moves-answer.ensures
+returns c = ap (λ (a : Answer). outcome_of a c.budgeted_moves.new.places c.budgeted_moves.new.cards) c.from.ensures ∙ c.budgeted_moves.ensures

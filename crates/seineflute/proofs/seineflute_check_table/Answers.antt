@@ -3,4 +3,4 @@ use mathlib.Core.Path.{◌∙◌}
 use Rattle.seineflute.proofs.seineflute_check_table.Goals as goal
 
 pub returns : goal.returns
-returns c = c.numbers_of.ensures ∙ c.check_table-answer.ensures
+returns c = c.from.ensures ∙ c.check_table.ensures

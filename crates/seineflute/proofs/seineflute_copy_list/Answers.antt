@@ -5,4 +5,4 @@ use Rattle.answers.specs.declared.Answer.{Answer}
 use Rattle.seineflute.proofs.seineflute_copy_list.Goals as goal
 
 pub returns : goal.returns
-returns c = ap (λ (a : Answer). listed_of a c.copy_list-answer.new.lent) c.numbers_of.ensures ∙ c.copy_list-answer.ensures
+returns c = ap (λ (a : Answer). listed_of a c.copy_list.new.lent) c.from.ensures ∙ c.copy_list.ensures

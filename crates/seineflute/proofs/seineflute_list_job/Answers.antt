@@ -5,4 +5,4 @@ use Rattle.answers.specs.Answers.{SizeAnswer}
 use Rattle.seineflute.proofs.seineflute_list_job.Goals as goal
 
 pub returns : goal.returns
-returns c = ap (λ (a : SizeAnswer). sized_of a c.list_job-found.new.out) c.size_numbers.ensures ∙ c.list_job-found.ensures
+returns c = ap (λ (a : SizeAnswer). sized_of a c.list_job.new.out) c.from.ensures ∙ c.list_job.ensures

@@ -5,4 +5,4 @@ use Rattle.answers.specs.declared.Answer.{Answer}
 use Rattle.seineflute.proofs.seineflute_phase_plan.Goals as goal
 
 pub returns : goal.returns
-returns c = ap (λ (a : Answer). listed_of a c.phase_plan-answer.new.lent) c.numbers_of.ensures ∙ c.phase_plan-answer.ensures
+returns c = ap (λ (a : Answer). listed_of a c.phase_plan.new.lent) c.from.ensures ∙ c.phase_plan.ensures

@@ -5,4 +5,4 @@ use Rattle.moves.specs.Moves.{outcome_of}
 use Rattle.seineflute.proofs.seineflute_shuffle_cards.Goals as goal
 
 pub returns : goal.returns
-returns c = ap (λ (a : Answer). outcome_of a c.shuffle_cards-answer.new.places c.shuffle_cards-answer.new.cards) c.numbers_of.ensures ∙ c.shuffle_cards-answer.ensures
+returns c = ap (λ (a : Answer). outcome_of a c.shuffle_cards.new.places c.shuffle_cards.new.cards) c.from.ensures ∙ c.shuffle_cards.ensures

@@ -4,4 +4,4 @@ use Rattle.flat.specs.Flat.{slot_numbers}
 use Rattle.seineflute.proofs.seineflute_slot_question.Goals as goal
 
 pub returns : goal.returns
-returns c = c.slot_numbers.ensures ∙ ap slot_numbers c.slot_question-found.ensures
+returns c = c.from.ensures ∙ ap slot_numbers c.slot_question.ensures

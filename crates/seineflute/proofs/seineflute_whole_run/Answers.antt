@@ -5,4 +5,4 @@ use Rattle.moves.specs.Moves.{outcome_of}
 use Rattle.seineflute.proofs.seineflute_whole_run.Goals as goal
 
 pub returns : goal.returns
-returns c = ap (λ (a : Answer). outcome_of a c.whole_run-answer.new.places c.whole_run-answer.new.cards) c.numbers_of.ensures ∙ c.whole_run-answer.ensures
+returns c = ap (λ (a : Answer). outcome_of a c.whole_run.new.places c.whole_run.new.cards) c.from.ensures ∙ c.whole_run.ensures

@@ -5,4 +5,4 @@ use Rattle.answers.specs.Answers.{SizeAnswer}
 use Rattle.seineflute.proofs.seineflute_write_file.Goals as goal
 
 pub returns : goal.returns
-returns c = ap (λ (a : SizeAnswer). sized_of a c.write_file-found.new.out) c.size_numbers.ensures ∙ c.write_file-found.ensures
+returns c = ap (λ (a : SizeAnswer). sized_of a c.write_file.new.out) c.from.ensures ∙ c.write_file.ensures
