@@ -9,20 +9,20 @@ use native.Mathlib.Nat.{suc-mul, mul-le-mul_right}
 use lib.Dec.{leb}
 use lib.ListN.{length, get_or, length-append}
 use lib.Seq.{sets}
-use borrow.Author.Tests.{eq-eqb, ne_eqb, eqb-false, lt-ltb, le-ltb}
+use borrow.Author.Tests.{eq-eqb, ne_eqb, lt-ltb, le-ltb}
 use Rattle.counting.specs.Tests.{bit}
 use Rattle.counting.specs.Lists.{join, each}
-use Rattle.counting.specs.Checks.{Check, first, known}
-use Rattle.counting.proofs.Tests.{or-off_l, bit_le}
-use Rattle.counting.proofs.Checks.{first-here, first-later, first-none, first_off, known_past, known-none}
+use Rattle.counting.specs.Checks.{first}
+use Rattle.counting.proofs.Tests.{bit_le}
+use Rattle.counting.proofs.Checks.{first-here, first-later, first-none, known_past}
 use Rattle.counting.proofs.Lists.{length-each, get_d-each}
 use Rattle.answers.specs.Answers.{placeless, sized}
 use Rattle.answers.specs.Answers.{Refusal}
 use Rattle.racks.specs.Limits.{FREE}
 use Rattle.racks.specs.Racks.{Rack, of_caps, rack_at, users, base, slots, spare_of}
 use Rattle.racks.specs.Table.{dest}
-use Rattle.racks.specs.Job.{racks_of, job_of, Sound}
-use Rattle.racks.specs.Numbers.{bad_bytes, too_short}
+use Rattle.racks.specs.Job.{racks_of, good_job, Sound}
+use Rattle.racks.specs.Numbers.{too_short}
 use Rattle.racks.specs.parts.Legal.{Legal, Spared}
 use Rattle.racks.specs.declared.Job.{Job}
 use Rattle.racks.proofs.Geometry.{spare-is, spare-end, end_le}
@@ -31,10 +31,15 @@ use Rattle.racks.proofs.Table.{read-dest}
 use Rattle.racks.proofs.LegalTable.{legal-slot, spare_lt}
 use Rattle.tables.specs.parts.Tables.{OpenCards, refusal_by, cards_number}
 use Rattle.tables.proofs.Refusals.{placeless_by}
-use Rattle.tables.proofs.Tables.{cards-racks, same-racks, of-card_refusal}
 use Rattle.jobwriter.specs.Writing.{numeral_of, numerals_of, file_entry, cap_of, file_numbers, file_for, write_checks, filed}
 use Rattle.jobwriter.specs.parts.Puts.{Short, Put, Roomy, Writable, write_number, filed_by}
 use Rattle.jobwriter.proofs.Puts.{one_group, numeral-length, put_then, numerals-append, all-few}
+use Rattle.std.specs.Prelude.{Err}
+use Rattle.answers.specs.Answers.{refusal_of, size_answered, sized_of}
+use Rattle.answers.specs.declared.Refusal as given
+use Rattle.answers.proofs.Answers.{sized-refused}
+use Rattle.racks.specs.Numbers.{size_checks}
+use Rattle.tables.proofs.Capacities.{refused-cards, of-card_refusal}
 
 -- an entry as the file has it
 pub entry_free : (x : ℕ) → x ≡ FREE → 0 ≡ file_entry x
@@ -113,14 +118,10 @@ module _ {job : Job} {b : ℕ} {places cards racking : List ℕ} (o : OpenCards 
   cards-below = omega (arith, mul-le-mul_right b o.table.sound.small, o.long, o.bytes)
 
   -- and there are some, where each rack has a spare
-  pub cards-some : Spared (racks_of job) → cards_number job b places cards ≡ 0 → 0 < length cards
-  unfolding cards_number bad_bytes
-  cards-some spared z =
-      let one = first_off _ 1 _ (λ e. omega arith) z in
-      let two = first_off _ 2 _ (λ e. omega arith) one.1 in
-      let some : b ≢ 0 = eqb-false b 0 (or-off_l _ two.0) in
+  pub cards-some : Spared (racks_of job) → 0 < b → 0 < length cards
+  cards-some spared some =
       let here = rw suc-mul at (mul-le-mul_right b (spare_lt (racks_of job) spared 0 o.table.sound.some)) in
-      omega (arith, here, some, o.long)
+      omega (arith, here, o.long)
 
 -- so the numbers are few bytes
 pub caps-few : {job : Job} → Sound job → length (numerals_of (each cap_of (racks_of job))) ≤ 128
@@ -235,11 +236,14 @@ module _ (job : Job) (b : ℕ) (places cards lent : List ℕ) where
         ∙ first-none))
 
 -- a job made from capacities gives their file
-pub filed_by_lem : (caps : List ℕ) (job : Job) → job ≡ job_of (of_caps caps) → (b : ℕ) (places cards lent : List ℕ) → filed_by job b places cards lent ≡ filed (of_caps caps) b places cards lent
-unfolding filed_by write_number filed write_checks refusal_by
-filed_by_lem caps job is b places cards lent =
-    let rest : List Rack → List Check = λ (r : List Rack). (too_short lent (file_for r b places cards), 19) ∷ [] in
-    let n : ℕ = first (known (cards_number job b places cards) ∷ rest (racks_of job)) in
-    let z : n ≡ 0 → job.refused ≡ 0 = λ e. cards-racks job b places cards (known-none (cards_number job b places cards) (rest (racks_of job)) e) in
-    rw (same-racks caps job is n z (λ (r : List Rack). length (file_for r b places cards)) 0, same-racks caps job is n z (λ (r : List Rack). sets lent 0 (file_for r b places cards)) lent)
-    (ap (λ (x : Refusal). sized x (file_for (of_caps caps) b places cards) lent) (of-card_refusal caps job is b places cards rest))
+pub filed_by_lem : (caps : List ℕ) (b : ℕ) (job : Job) → (first (size_checks (of_caps caps) b) ≡ 0) × (job ≡ good_job (of_caps caps)) → (places cards lent : List ℕ) → filed_by job b places cards lent ≡ filed (of_caps caps) b places cards lent
+unfolding filed_by write_number filed write_checks
+filed_by_lem caps b job m places cards lent =
+    of-card_refusal caps b job m places cards (λ (r : List Rack). (too_short lent (file_for r b places cards), 19) ∷ [])
+    (λ (x : Refusal) (r : List Rack). sized x (file_for r b places cards) lent)
+
+-- capacities, or B, that are refused give their refusal
+pub filed-sizes : (caps : List ℕ) (b : ℕ) (e : given.Refusal) → refusal_of e ≡ placeless (first (size_checks (of_caps caps) b)) → (places cards lent : List ℕ) → sized_of (size_answered (Err e)) lent ≡ filed (of_caps caps) b places cards lent
+unfolding filed write_checks
+filed-sizes caps b e is places cards lent =
+    sized-refused _ (file_for (of_caps caps) b places cards) lent e (refused-cards caps b e is places cards ((too_short lent (file_for (of_caps caps) b places cards), 19) ∷ []))

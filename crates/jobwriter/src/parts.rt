@@ -2,13 +2,13 @@
 ghost use Rattle.std.specs.Prelude.{◌≡◌, ◌+◌, ◌≤◌, ◌<◌, length, get_or};
 ghost use Rattle.std.proofs.lemmas.List.Edits.{sets};
 ghost use Rattle.counting.specs.Lists.{each};
-ghost use Rattle.racks.specs.Limits.{SLOTS};
-ghost use Rattle.racks.specs.Job.{racks_of, Sound, FitSpared};
-ghost use Rattle.answers.specs.Answers.{sized_of};
+ghost use Rattle.racks.specs.Limits.{BYTES, SLOTS};
+ghost use Rattle.racks.specs.Job.{racks_of, Sound, SoundSpared};
+ghost use Rattle.answers.specs.Answers.{size_answered, sized_of};
 ghost use Rattle.jobwriter.specs.Writing.{numeral_of, numerals_of, file_entry, cap_of, file_numbers, file_for};
 ghost use Rattle.jobwriter.specs.parts.Puts.{Short, Put, Roomy, Writable, filed_by};
 
-use answers::{Answer, SizeAnswer};
+use answers::Refusal;
 use racks::Job;
 
 // An entry as the file has it. Two returns that become one choice, not a branch.
@@ -111,22 +111,22 @@ fn put_file(job: Job, b: usize, places: &[u16], cards: &[u8], out: &mut [u8])
 }
 
 // Write file, by the job: the length first, then one pass.
-pub fn write_job(job: Job, b: usize, places: &[u16], cards: &[u8], out: &mut [u8]) -> SizeAnswer
-    requires { FitSpared job }
-    ensures { sized_of result out.new ≡ filed_by job b places.now cards.now out.old }
+pub fn write_job(
+    job: Job,
+    b: usize,
+    places: &[u16],
+    cards: &[u8],
+    out: &mut [u8],
+) -> Result<usize, Refusal>
+    requires { SoundSpared job × (0 < b) × (b ≤ BYTES) }
+    ensures { sized_of (size_answered result) out.new ≡ filed_by job b places.now cards.now out.old }
 {
     let mut racking = [0u8; Job::MAX_SLOTS];
-    let refusal = tables::parts::cards_refusal(job, b, places, cards, &mut racking);
-    if refusal.number != 0 {
-        let answer = Answer::refused(refusal);
-        return SizeAnswer { answer, size: 0 };
-    }
+    tables::parts::check_cards(job, b, places, cards, &mut racking)?;
     let size = numbers_size(job, b, places) + cards.len();
     if out.len() < size {
-        let answer = Answer::of(19);
-        return SizeAnswer { answer, size: 0 };
+        return Err(Refusal::BufferShort);
     }
     put_file(job, b, places, cards, out);
-    let answer = Answer::of(0);
-    SizeAnswer { answer, size }
+    Ok(size)
 }

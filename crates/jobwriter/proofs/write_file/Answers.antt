@@ -1,10 +1,19 @@
 use mathlib.Core.Path.{◌∙◌}
-use Rattle.racks.proofs.Jobs.{of-fit}
-use Rattle.jobwriter.proofs.Files.{filed_by_lem}
+use Rattle.std.proofs.lemmas.Result.{err_from_is_err_and}
+use Rattle.racks.proofs.Caps.{sizes-few, sizes-some}
+use Rattle.racks.proofs.Jobs.{of-spared}
+use Rattle.tables.proofs.Capacities.{of-sizes}
+use Rattle.jobwriter.proofs.Files.{filed_by_lem, filed-sizes}
 use Rattle.jobwriter.proofs.write_file.Goals as goal
 
+pub returns-in_err-job : goal.returns-in_err-job
+returns-in_err-job c =
+    let s = c.args in
+    let p = err_from_is_err_and c.from_residual.result c.from_residual.ensures.1 in
+    rw (p.1, p.2) (filed-sizes s.caps.now s.b _ c.in_err-job.ensures s.places.now s.cards.now s.out.now)
+
 pub write_job-requires : goal.write_job-requires
-write_job-requires c = of-fit _ _ c.of-job.ensures
+write_job-requires c = (of-spared _ _ (of-sizes _ _ _ c.in_ok-job.ensures c.args.places.now c.args.cards.now), sizes-some _ _ c.in_ok-job.ensures.0, sizes-few _ _ c.in_ok-job.ensures.0)
 
 pub returns : goal.returns
-returns c = c.write_job.ensures ∙ filed_by_lem _ _ c.of-job.ensures _ _ _ _
+returns c = c.write_job.ensures ∙ filed_by_lem _ _ _ c.in_ok-job.ensures _ _ _
