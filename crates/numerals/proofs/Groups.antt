@@ -4,7 +4,7 @@ use mathlib.Core.Bool.{Bool, true, false, not}
 use mathlib.Core.List.{List}
 use Prim.Native.Nat.{ℕ, zero, suc, ◌+◌, ◌-◌, ◌*◌, ◌≤◌, ◌<◌}
 use native.Mathlib.Omega.{arith}
-use native.Mathlib.Nat.{mul-le-mul_right}
+use native.Mathlib.Nat.{mul-le-mul_right, zero-mul, add-zero}
 use native.Mathlib.Numerals.{add-one}
 use lib.Dec.{leb, eqb}
 use lib.ListN.{length, get_or}
@@ -25,14 +25,19 @@ module _ (value weight x next : ℕ) where
   unfolding last_group
   last-14 e f = rw (both (eq-eqb x 0 e) (ap not (ne_eqb weight 1 f)))
 
-  -- the only group
-  pub last-only : weight ≡ 1 → record { number = 0; value = value + x * weight; next = next } ≡ last_group value weight x next
+  -- a last group that is the only one
+  pub last_first : weight ≡ 1 → record { number = 0; value = value + x * weight; next = next } ≡ last_group value weight x next
   unfolding last_group
-  last-only f = rw (and-off_r (eqb x 0) (ap not (eq-eqb weight 1 f)))
+  last_first f = rw (and-off_r (eqb x 0) (ap not (eq-eqb weight 1 f)))
+
+  -- a group of 0 alone
+  pub last-only : x ≡ 0 → weight ≡ 1 → record { number = 0; value = value; next = next } ≡ last_group value weight x next
+  unfolding last_group
+  last-only e f = rw (and-off_r (eqb x 0) (ap not (eq-eqb weight 1 f)), e, zero-mul weight, add-zero value)
 
 -- one group more, by the tests that the code makes
-module _ (file : List ℕ) (left less at value weight : ℕ) (one : left ≡ less + 1) where
-  one_less : left ≡ suc less
+module _ (file : List ℕ) (left at value weight : ℕ) (some : 0 < left) where
+  one_less : left ≡ suc (left - 1)
   one_less = omega arith
 
   -- the file ends
@@ -47,7 +52,7 @@ module _ (file : List ℕ) (left less at value weight : ℕ) (one : left ≡ les
 
   -- another group follows
   pub group-more : at < length file → 128 ≤ get_or file at 0
-      → groups left file at value weight ≡ groups less file (at + 1) (value + (get_or file at 0 - 128) * weight) (weight * 128)
+      → groups left file at value weight ≡ groups (left - 1) file (at + 1) (value + (get_or file at 0 - 128) * weight) (weight * 128)
   unfolding groups
   group-more h l =
       ap (λ n. groups n file at value weight) one_less ∙ rw (lt-leb (length file) at h, le-leb 128 (get_or file at 0) l, add-one at)
@@ -70,8 +75,8 @@ pub weighed-none : Weighed 3 0 1
 weighed-none = record { few = omega arith; first = λ _. omega arith; second = λ _. omega arith; third = λ _. omega arith; low = omega arith }
 
 -- after one group more
-pub weighed-more : (left less value weight y : ℕ) → left ≡ less + 1 → y ≤ 127 → Weighed left value weight → Weighed less (value + y * weight) (weight * 128)
-weighed-more left less value weight y s l w =
+pub weighed-more : (left value weight y : ℕ) → 0 < left → y ≤ 127 → Weighed left value weight → Weighed (left - 1) (value + y * weight) (weight * 128)
+weighed-more left value weight y s l w =
     record {
       few = omega (arith, w.few);
       first = λ h. absurd (omega (arith, w.few));

@@ -13,8 +13,7 @@ use Rattle.counting.specs.Checks.{Check, first}
 use Rattle.counting.proofs.Tests.{or-none, or-off_l, or-off_r}
 use Rattle.counting.proofs.Checks.{first-later, first-none, first_off, first-append, first-clear, first_past}
 use Rattle.counting.proofs.Stores.{take-front}
-use Rattle.answers.specs.Answers.{placeless, answer, no_counts, Sized, sized_of, sized}
-use Rattle.answers.specs.declared.SizeAnswer.{SizeAnswer}
+use Rattle.answers.specs.Answers.{placeless, answer, no_counts, SizeAnswer, Sized, sized_of, sized}
 use Rattle.racks.specs.Racks.{of_caps, slots}
 use Rattle.racks.specs.Numbers.{card_checks, too_short, refusal_in}
 use Rattle.racks.proofs.Caps.{length-caps}
