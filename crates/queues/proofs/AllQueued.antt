@@ -7,9 +7,7 @@ use native.Mathlib.Decide.{ℕ_discrete, dec_lt}
 use lib.Dec.{ltb}
 use lib.ListN.{length, set}
 use lib.Seq.{get_or-set_same}
-use borrow.Author.Tests.{le-ltb}
-use Rattle.counting.specs.Tests.{pick}
-use Rattle.counting.proofs.Tests.{by-test}
+use borrow.Author.Tests.{le-ltb, lt-ltb}
 use Rattle.racks.specs.Racks.{Rack, base, slots}
 use Rattle.racks.specs.Job.{start_in, racks_of}
 use Rattle.racks.specs.declared.Job.{Job}
@@ -37,21 +35,25 @@ job_tabled job places racking o = record { legal = o.legal; filled = o.filled; s
 pub awaiting-none : (line : List ℕ) → Awaiting 0 line 0
 awaiting-none line = record { racks-are = λ p l. absurd (omega arith); rest = λ p l. bit-none p }
 
--- one rack more
-pub awaiting-more : {n : ℕ} {line : List ℕ} {word word' : ℕ} → Awaiting n line word → word' ≡ pick (ltb (head_of line n) (tail_of line n)) (turned_on word n) word → Awaiting (n + 1) line word'
-awaiting-more {n} {line} {word} {word'} a e = record {
+-- one rack more, for which a card waits
+pub awaiting-on : {n : ℕ} {line : List ℕ} {word : ℕ} → Awaiting n line word → head_of line n < tail_of line n → Awaiting (n + 1) line (turned_on word n)
+awaiting-on {n} {line} {word} a h = record {
   racks-are = λ p l. elim (ℕ_discrete p n) [
-    | yes i ↦ rw i here
-    | no i ↦ kept p i ∙ a.racks-are p (omega arith)
+    | yes i ↦ rw i (turned-on-here word n ∙ sym (lt-ltb _ _ h))
+    | no i ↦ turned-on-other word n p i ∙ a.racks-are p (omega arith)
   ];
-  rest = λ p l. kept p (λ i. omega arith) ∙ a.rest p (omega arith);
+  rest = λ p l. turned-on-other word n p (λ i. omega arith) ∙ a.rest p (omega arith);
 }
-  where
-    here : bit_on word' n ≡ ltb (head_of line n) (tail_of line n)
-    here = by-test (ltb (head_of line n) (tail_of line n)) (λ t. rw (e, t) (turned-on-here word n)) (λ t. rw (e, t) (a.rest n (omega arith)))
 
-    kept : (p : ℕ) → (p ≡ n → ⊥) → bit_on word' p ≡ bit_on word p
-    kept p d = by-test (ltb (head_of line n) (tail_of line n)) (λ t. rw (e, t) (turned-on-other word n p d)) (λ t. rw (e, t))
+-- and for which none does
+pub awaiting-off : {n : ℕ} {line : List ℕ} {word : ℕ} → Awaiting n line word → tail_of line n ≤ head_of line n → Awaiting (n + 1) line word
+awaiting-off {n} {line} {word} a h = record {
+  racks-are = λ p l. elim (ℕ_discrete p n) [
+    | yes i ↦ rw i (a.rest n (omega arith) ∙ sym (le-ltb _ _ h))
+    | no i ↦ a.racks-are p (omega arith)
+  ];
+  rest = λ p l. a.rest p (omega arith);
+}
 
 module _ (racks : List Rack) (places racking : List ℕ) (t : Tabled racks places racking) where
   -- the rows after all slots

@@ -1,29 +1,27 @@
 // The queues of arrivals: for each rack, the slots of the cards away to it, ascending, in its own stretch of the line.
-ghost use Rattle.std.specs.Prelude.{◌≡◌, ◌+◌, ◌≤◌, ◌<◌, length};
-ghost use Rattle.counting.specs.Tests.{pick};
+ghost use Rattle.std.specs.Prelude.{◌≡◌, ◌≤◌, ◌<◌, length};
 ghost use Rattle.counting.specs.Count.{count};
 ghost use Rattle.racks.specs.Limits.{RACKS, SLOTS};
 ghost use Rattle.racks.specs.Racks.{slots};
+ghost use Rattle.racks.specs.Table.{free};
 ghost use Rattle.racks.specs.Job.{racks_of, Sound};
 ghost use Rattle.tables.specs.parts.Tables.{Open};
-ghost use Rattle.bits.specs.parts.Bits.{turned_on, WORDS};
+ghost use Rattle.bits.specs.parts.Bits.{WORDS};
 ghost use Rattle.queues.specs.parts.Line.{LINE, Blank};
-ghost use Rattle.queues.specs.parts.Queued.{free_from, placed, Placed, Queueable, queued, Awaiting};
+ghost use Rattle.queues.specs.parts.Queued.{placed, Placed, Queueable, queued, Awaiting};
 ghost use Rattle.queues.specs.parts.Ready.{Started};
 
 use crate::parts::{line, openings};
 use racks::Job;
 
-// How many of the slots from `low` up to `high` are free.
-pub fn count_free(places: &[u16], low: usize, high: usize) -> u16
-    requires { (low ≤ high) × (high ≤ length places.now) × (high ≤ SLOTS) }
-    ensures { result ≡ count high (free_from places.now low) }
+// How many of these slots are free.
+pub fn count_free(slots: &[u16]) -> u16
+    requires { length slots.now ≤ SLOTS }
+    ensures { result ≡ count (length slots.now) (free slots.now) }
 {
     let mut free: u16 = 0;
-    let mut g = low;
-    while g < high {
-        free = free + tables::parts::one_if(places[g] == Job::FREE);
-        g = g + 1;
+    for entry in slots {
+        free += u16::from(*entry == Job::FREE);
     }
     free
 }
@@ -45,13 +43,11 @@ fn place_racks(job: Job, places: &[u16], line: &mut [u16; line::LINE])
     ensures { Placed (racks_of job) places.now job.racks line.new }
 {
     let mut low: u16 = 0;
-    let mut p: usize = 0;
-    while p < job.racks {
+    for p in 0..job.racks {
         let high = job.ends[p];
-        let free = count_free(places, low as usize, high as usize);
+        let free = count_free(&places[low as usize..high as usize]);
         place_rack(line, p, low, free);
         low = high;
-        p = p + 1;
     }
 }
 
@@ -70,18 +66,7 @@ fn queue_slot(
     let there = racking[tables::parts::named_slot(places[g], g)] as usize;
     let tail = line[line::TAILS + there];
     line[tail as usize] = g as u16;
-    line[line::TAILS + there] = tail + tables::parts::one_if(here != there);
-}
-
-// A word with bit p on where something is so.
-fn turn_if(word: u64, p: usize, so: bool) -> u64
-    requires { p < RACKS }
-    ensures { result ≡ pick so (turned_on word p) word }
-{
-    if so {
-        return bits::parts::turn_on(word, p);
-    }
-    word
+    line[line::TAILS + there] = tail + u16::from(here != there);
 }
 
 // The racks that wait: a bit is on where a card is in the rack's queue.
@@ -90,10 +75,10 @@ fn find_waiting(n: usize, line: &[u16; line::LINE]) -> u64
     ensures { Awaiting n line.now result }
 {
     let mut word: u64 = 0;
-    let mut p: usize = 0;
-    while p < n {
-        word = turn_if(word, p, line[line::HEADS + p] < line[line::TAILS + p]);
-        p = p + 1;
+    for p in 0..n {
+        if line[line::HEADS + p] < line[line::TAILS + p] {
+            word = bits::parts::turn_on(word, p);
+        }
     }
     word
 }
@@ -111,10 +96,8 @@ pub fn queue_up(
 {
     place_racks(job, places, line);
     openings::find_free(places, bits);
-    let mut g: usize = 0;
-    while g < job.slots {
+    for g in 0..job.slots {
         queue_slot(places, racking, g, line);
-        g = g + 1;
     }
     bits[line::WAITING] = find_waiting(job.racks, line);
 }

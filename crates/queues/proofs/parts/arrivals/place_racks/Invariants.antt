@@ -1,4 +1,3 @@
-use Prim.Native.Nat.{◌-◌}
 use Rattle.racks.specs.Job.{racks_of}
 use Rattle.queues.specs.parts.Queued.{Placed}
 use Rattle.racks.proofs.Passing.{At}
@@ -6,6 +5,3 @@ use Rattle.queues.proofs.parts.arrivals.place_racks.Given as goal
 
 abbrev pub invariant-loop-p : goal.invariant-loop-p
 invariant-loop-p l = At l.job l.p l.low × Placed (racks_of l.job) l.places l.p l.line
-
-abbrev pub decreases-loop-p : goal.decreases-loop-p
-decreases-loop-p l = l.job.racks - l.p

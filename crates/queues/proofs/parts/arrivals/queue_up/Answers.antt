@@ -1,6 +1,5 @@
 use native.Mathlib.Omega.{arith}
 use mathlib.Core.Path.{◌≡◌}
-use Prim.Native.Nat.{◌-◌}
 use Rattle.racks.specs.Racks.{slots}
 use Rattle.racks.specs.Job.{racks_of}
 use Rattle.racks.proofs.Jobs.{sound-racks, sound-slots, sound-count, sound-start, start_small}
@@ -15,19 +14,17 @@ pub find_free-requires : goal.find_free-requires
 find_free-requires c = (omega (arith, c.requires.0.legal.long, c.requires.0.sound.small), c.requires.2)
 
 pub loop-g-init : goal.loop-g-init
-loop-g-init c = (omega arith, queueing-none _ _ _ (sound-racks _ c.requires.0.sound) c.place_racks.ensures)
+loop-g-init c = queueing-none _ _ _ (sound-racks _ c.requires.0.sound) c.place_racks.ensures
 
 pub queue_slot-requires : goal.queue_slot-requires
 queue_slot-requires c = let l = c.loop-g in
     let job = c.args.job in
-    queueable (racks_of job) c.args.places.now c.args.racking.now (job_tabled job _ _ c.requires.0) l.g (omega (arith, sound-slots job c.requires.0.sound)) _ l.line l.invariant.1
+    queueable (racks_of job) c.args.places.now c.args.racking.now (job_tabled job _ _ c.requires.0) l.g (omega (arith, sound-slots job c.requires.0.sound)) _ l.line l.invariant
 
 pub loop-g-preserved : goal.loop-g-preserved
 loop-g-preserved c = let l = c.loop-g in
-    let job = c.args.job in (
-      omega arith,
-      queueing-more (racks_of job) c.args.places.now c.args.racking.now (job_tabled job _ _ c.requires.0) l.g (omega (arith, sound-slots job c.requires.0.sound)) _ l.line l.invariant.1 _ c.queue_slot.ensures,
-    )
+    let job = c.args.job in
+    queueing-more (racks_of job) c.args.places.now c.args.racking.now (job_tabled job _ _ c.requires.0) l.g (omega (arith, sound-slots job c.requires.0.sound)) _ l.line l.invariant _ c.queue_slot.ensures
 
 pub find_waiting-requires : goal.find_waiting-requires
 find_waiting-requires c = omega (arith, sound-count _ c.requires.0.sound)
@@ -38,6 +35,6 @@ returns c = let l = c.loop-g in
     let e : l.g ≡ slots (racks_of job) = omega (arith, sound-slots job c.requires.0.sound) in
     record {
       ready = queues-ready (racks_of job) c.args.places.now c.args.racking.now (job_tabled job _ _ c.requires.0) job.ends (sound-start job c.requires.0.sound) (start_small job c.requires.0.sound) job.racks _ l.line _ _ (sound-racks job c.requires.0.sound) (omega arith)
-          c.place_racks.ensures (rw e at l.invariant.1) c.find_free.ensures c.find_waiting.ensures;
-      long = l.invariant.1.long;
+          c.place_racks.ensures (rw e at l.invariant) c.find_free.ensures c.find_waiting.ensures;
+      long = l.invariant.long;
     }
