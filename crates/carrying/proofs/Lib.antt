@@ -1,4 +1,4 @@
-pub mod CardLoops
+pub mod CardBytes
 pub mod Flat
 pub mod Carries
 pub mod Outcomes

@@ -1,5 +1,5 @@
 use native.Mathlib.Omega.{arith}
-use Rattle.carrying.proofs.CardLoops.{inside}
+use Rattle.carrying.proofs.CardBytes.{inside}
 use Rattle.carrying.proofs.Carries.{moved-held}
 use Rattle.carrying.proofs.parts.move_card.Goals as goal
 

@@ -1,15 +1,17 @@
--- A turn and the end of each loop over a card's bytes. Assumes nothing.
+-- A card copied and a slot blanked, as the code stores their bytes. Assumes nothing.
 use mathlib.Core.Path.{◌≡◌, sym, ◌∙◌}
 use mathlib.Core.List.{List}
-use Prim.Native.Nat.{ℕ, ◌+◌, ◌*◌, ◌≤◌, ◌<◌}
+use Prim.Native.Nat.{ℕ, ◌+◌, ◌*◌, ◌-◌, ◌≤◌, ◌<◌}
 use native.Mathlib.Nat.{mul-le-mul_right}
 use native.Mathlib.Decide.{dec_lt}
 use native.Mathlib.Omega.{arith}
-use lib.ListN.{length, take, drop, get_or, set, replicate, length-drop, length-replicate, get_or-replicate}
-use lib.Seq.{sets, take_all, get_or-drop, length-take-le}
+use lib.ListN.{length, take, drop, get_or, set, replicate, length-drop, length-replicate}
+use lib.Seq.{sets, get_or-drop, length-take-le}
+use borrow.Rule.Slice.PartMut.{put_mid}
+use Rattle.counting.proofs.Stores.{sets-take, sets_else}
 use Rattle.moves.specs.Blocks.{block, put_block, blank}
 use Rattle.moves.proofs.Blocks.{below}
-use Rattle.counting.proofs.Stores.{sets-take, sets_else}
+use Rattle.racks.proofs.Puts.{sets-mid}
 
 -- each of n slots lies inside a buffer of n cards
 pub inside : (b g n len : ℕ) → g < n → n * b ≡ len → g * b + b ≤ len
@@ -34,13 +36,10 @@ pub copy_done : (b f t i : ℕ) (lent cards : List ℕ) → cards ≡ sets lent 
 unfolding put_block block
 copy_done b f t i lent cards h e = h ∙ rw e
 
--- one byte more of a slot is blank
-pub blank-more : (b g i : ℕ) (lent cards : List ℕ) → i < b → cards ≡ sets lent (g * b) (take i (replicate b 0))
-    → set cards (g * b + i) 0 ≡ sets lent (g * b) (take (i + 1) (replicate b 0))
-blank-more b g i lent cards h e =
-    rw e (sym (sets-take (replicate b 0) lent (g * b) i (simp length-replicate h) ∙ rw get_or-replicate))
-
--- all its bytes are
-pub blank-done : (b g i : ℕ) (lent cards : List ℕ) → cards ≡ sets lent (g * b) (take i (replicate b 0)) → i ≡ b → cards ≡ put_block b g (blank b) lent
+-- a card's bytes all filled with zeros
+pub filled : (b g n : ℕ) (cards zeros : List ℕ) → g * b + b ≤ length cards → zeros ≡ replicate n 0 → n ≡ b
+    → put_mid (g * b) (g * b + b - g * b) cards zeros ≡ put_block b g (blank b) cards
 unfolding put_block blank
-blank-done b g i lent cards h e = h ∙ rw (e, take_all {A = ℕ} b (replicate b 0) (simp length-replicate (omega arith)))
+filled b g n cards zeros fits e m =
+    let long : length (replicate b 0) ≡ b = length-replicate {A = ℕ} b 0 in
+    rw (e, m) (rw long at (sets-mid cards (replicate b 0) (g * b) (omega arith)))
