@@ -1,10 +1,9 @@
 // The pairs of a phase, from the queues: each rack's waiting cards take its free slots from the lowest up.
 ghost use Rattle.std.specs.Prelude.{◌≡◌, ◌+◌, ◌*◌, ◌-◌, ◌≤◌, ◌<◌, length};
 ghost use Rattle.std.proofs.lemmas.List.Edits.{sets};
-ghost use Rattle.counting.specs.Tests.{pick};
 ghost use Rattle.counting.specs.Lists.{flat};
 ghost use Rattle.racks.specs.Limits.{RACKS, SLOTS};
-ghost use Rattle.bits.specs.parts.Bits.{turned_off, Topped};
+ghost use Rattle.bits.specs.parts.Bits.{Topped};
 ghost use Rattle.queues.specs.parts.Line.{queue_of, HEADS, LINE};
 ghost use Rattle.queues.specs.parts.Queues.{rows_of, Visitable, opens};
 ghost use Rattle.pairing.specs.parts.Phase.{served, sent, Visited, Plannable, PhasePlanned};
@@ -27,17 +26,15 @@ fn plan_rack(
     requires end_bound { (end ≤ head + length (opens bits.now low SLOTS)) × (at + 2 * (end - head) ≤ length log.old) }
     ensures { log.new ≡ sets log.old at (flat (served bits.now (queue_of line.now) head end low)) }
 {
-    let mut h = head;
     let mut k = at;
     let mut base = low;
     let mut rest = bits::parts::walk_from(bits, low);
-    while h < end {
+    for h in head..end {
         let walk = bits::parts::walk_on(bits, base, rest);
         let b = bits::parts::next_on(walk.rest, 0);
         log[k] = line[h];
         log[k + 1] = (walk.at + b) as u16;
-        h = h + 1;
-        k = k + 2;
+        k += 2;
         base = walk.at;
         rest = bits::parts::turn_off(walk.rest, b);
     }
@@ -59,24 +56,13 @@ fn visit(
     let head = line[line::HEADS + p] as usize;
     let waits = line[line::TAILS + p] as usize - head;
     let room = line[line::ROOMS + p] as usize;
-    let made = racks::parts::smaller(room, waits);
+    let made = room.min(waits);
     let end = head + made;
     let low = racks::parts::first_slot(ends, p) as usize;
     plan_rack(line, head, end, bits, low, log, at);
     line[line::HEADS + p] = end as u16;
     line[line::ROOMS + p] = (room - made) as u16;
     made
-}
-
-// The racks that wait: without rack p where no more cards wait for it.
-fn stop_waiting(waiting: u64, p: usize, more: bool) -> u64
-    requires { p < RACKS }
-    ensures { result ≡ pick more waiting (turned_off waiting p) }
-{
-    if more {
-        return waiting;
-    }
-    bits::parts::turn_off(waiting, p)
 }
 
 // Plans a phase: its pairs from `at` on, by target rack, and how many they are. Only racks that wait are visited, each taken out of a word
@@ -95,11 +81,14 @@ pub fn plan_phase(
     let mut waiting = bits[line::WAITING];
     let mut left = waiting;
     let mut p = bits::parts::next_on(left, 0);
+    // Kept: no counted loop but a walk over the bits that are on; a `for` over all racks would need a test in each turn, and be no plainer.
     while p < 64 {
         let made = visit(ends, line, p, bits, log, at + 2 * count);
-        waiting = stop_waiting(waiting, p, line[line::HEADS + p] < line[line::TAILS + p]);
+        if line[line::TAILS + p] <= line[line::HEADS + p] {
+            waiting = bits::parts::turn_off(waiting, p);
+        }
         left = bits::parts::turn_off(left, p);
-        count = count + made;
+        count += made;
         p = bits::parts::next_on(left, 0);
     }
     bits[line::WAITING] = waiting;

@@ -1,5 +1,5 @@
 use native.Mathlib.Omega.{arith}
-use Prim.Native.Nat.{◌+◌, ◌-◌, ◌≤◌, ◌<◌}
+use Prim.Native.Nat.{◌+◌, ◌≤◌, ◌<◌}
 use lib.ListN.{length, length-set}
 use Rattle.queues.proofs.Line.{queue_long, queue-get}
 use Rattle.pairing.proofs.Pairing.{paired-all, paired-done, paired-onward, paired-bit, paired-slot, paired-room, paired-more}
