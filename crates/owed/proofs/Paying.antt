@@ -1,13 +1,12 @@
 -- The moves of a list of numbers, paid for move by move. Assumes nothing.
 use mathlib.Core.Path.{◌≡◌}
 use mathlib.Core.List.{List, ◌∷◌}
-use Prim.Native.Nat.{ℕ, ◌+◌, ◌-◌, ◌≤◌, ◌<◌}
+use Prim.Native.Nat.{ℕ, ◌+◌, ◌*◌, ◌/◌, ◌-◌, ◌≤◌, ◌<◌}
 use native.Mathlib.Omega.{arith}
 use lib.ListN.{length, get_or, set, length-set}
 use Rattle.counting.specs.Lists.{Pair}
 use Rattle.owed.specs.parts.Owed.{cell}
-use Rattle.carrying.specs.parts.Carrying.{pairs_in}
-use Rattle.carrying.proofs.Flat.{pairs-more, pairs-none}
+use Rattle.carrying.proofs.Flat.{pairs_from, from-more, from-none}
 use Rattle.owed.specs.parts.Kept.{cell_of, pay, paid, Payable}
 use Rattle.owed.specs.parts.Kept.Payable.{more}
 
@@ -21,39 +20,37 @@ tail : {racking : List ℕ} {m : Pair} {ms : List Pair} {counts : List ℕ} → 
 tail (more a b x y o r) = r
 
 -- the moves left can be paid for, and end as all of them do
-pub record Paying (list : List ℕ) (i high : ℕ) (racking counts end : List ℕ) : Type 0 where
-  pub payable : Payable racking (pairs_in list i high) counts
-  pub ends : paid racking (pairs_in list i high) counts ≡ end
+pub record Paying (list : List ℕ) (i : ℕ) (racking counts end : List ℕ) : Type 0 where
+  pub payable : Payable racking (pairs_from list i) counts
+  pub ends : paid racking (pairs_from list i) counts ≡ end
   pub long : length counts ≡ 4096
 
-module _ (list : List ℕ) (i high : ℕ) (fits : high ≤ length list) where
-  module _ {racking counts end : List ℕ} (s : Paying list i high racking counts end) where
-    -- the ends of the first of them are in the table, and their racks below 64
-    pub paying-ends : i + 2 ≤ high
-        → (get_or list i 0 < 4096) × (get_or list (i + 1) 0 < 4096) × (get_or racking (get_or list i 0) 0 < 64) × (get_or racking (get_or list (i + 1) 0) 0 < 64)
-    paying-ends l =
-        let h = head (rw (pairs-more list i high fits l) at s.payable) in
-        (h.0, h.1, h.2, h.3)
+module _ (list : List ℕ) (i : ℕ) {racking counts end : List ℕ} (s : Paying list i racking counts end) where
+  -- the ends of the first of them are in the table, and their racks below 64
+  pub paying-ends : i < length list / 2
+      → (get_or list (2 * i) 0 < 4096) × (get_or list (2 * i + 1) 0 < 4096) × (get_or racking (get_or list (2 * i) 0) 0 < 64) × (get_or racking (get_or list (2 * i + 1) 0) 0 < 64)
+  paying-ends l =
+      let h = head (rw (from-more list i l) at s.payable) in
+      (h.0, h.1, h.2, h.3)
 
+  module _ (k : ℕ) (l : i < length list / 2) (ek : k ≡ cell (get_or racking (get_or list (2 * i) 0) 0) (get_or racking (get_or list (2 * i + 1) 0) 0)) where
     -- it is still owed
-    pub paying-owed : (k : ℕ) → i + 2 ≤ high → k ≡ cell (get_or racking (get_or list i 0) 0) (get_or racking (get_or list (i + 1) 0) 0)
-        → (length counts ≡ 4096) × (k < 4096) × (0 < get_or counts k 0)
+    pub paying-owed : (length counts ≡ 4096) × (k < 4096) × (0 < get_or counts k 0)
     unfolding cell_of
-    paying-owed k l e =
-        let h = head (rw (pairs-more list i high fits l) at s.payable) in
-        (s.long, omega arith, rw e h.4)
+    paying-owed =
+        let h = head (rw (from-more list i l) at s.payable) in
+        (s.long, omega arith, rw ek h.4)
 
     -- once it is paid for, those after it can be
-    pub paying-more : (k : ℕ) (counts' : List ℕ) → i + 2 ≤ high → k ≡ cell (get_or racking (get_or list i 0) 0) (get_or racking (get_or list (i + 1) 0) 0)
-        → counts' ≡ set counts k (get_or counts k 0 - 1) → Paying list (i + 2) high racking counts' end
+    pub paying-more : Paying list (i + 1) racking (set counts k (get_or counts k 0 - 1)) end
     unfolding cell_of pay paid
-    paying-more k counts' l ek e = record {
-      payable = rw (e, ek) (tail (rw (pairs-more list i high fits l) at s.payable));
-      ends = rw (e, ek) (rw (pairs-more list i high fits l) at s.ends);
-      long = rw e (simp length-set s.long);
+    paying-more = record {
+      payable = rw ek (tail (rw (from-more list i l) at s.payable));
+      ends = rw ek (rw (from-more list i l) at s.ends);
+      long = simp length-set s.long;
     }
 
-    -- none is left
-    pub paying-done : high < i + 2 → counts ≡ end
-    unfolding paid
-    paying-done l = rw (pairs-none list i high fits l) at s.ends
+  -- none is left
+  pub paying-done : length list / 2 ≤ i → counts ≡ end
+  unfolding paid
+  paying-done l = rw (from-none list i l) at s.ends
