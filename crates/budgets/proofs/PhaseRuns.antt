@@ -1,11 +1,10 @@
 -- A phase run with an allowance, from the phase planned; and its moves noted one by one. Assumes nothing.
 use mathlib.Core.Path.{◌≡◌, refl, ap, ◌∙◌}
 use mathlib.Core.List.{List, ◌∷◌}
-use Prim.Native.Nat.{ℕ, ◌+◌, ◌*◌, ◌-◌, ◌≤◌, ◌<◌, min}
+use Prim.Native.Nat.{ℕ, ◌+◌, ◌*◌, ◌/◌, ◌-◌, ◌≤◌, ◌<◌, min}
 use native.Mathlib.Omega.{arith}
 use native.Mathlib.Decide.{ℕ_discrete}
-use lib.ListN.{length, get_or, set, take, length-take}
-use lib.Seq.{length-sets}
+use lib.ListN.{length, get_or, set, take, drop, length-take}
 use Rattle.counting.specs.Lists.{Pair}
 use Rattle.counting.specs.Every.{All}
 use Rattle.counting.specs.Every.All.{more}
@@ -22,8 +21,8 @@ use Rattle.pairing.specs.parts.Phase.{queued_plan, PhasePlanned}
 use Rattle.queues.specs.parts.Queued.{one_more}
 use Rattle.queues.proofs.Opens.{open-few}
 use Rattle.moves.specs.Moves.{Held}
-use Rattle.carrying.specs.parts.Carrying.{pairs_in, AllSlots, Carried}
-use Rattle.carrying.proofs.Flat.{pairs_of, pairs-more, pairs-none}
+use Rattle.carrying.specs.parts.Carrying.{unflat, AllSlots, Carried}
+use Rattle.carrying.proofs.Flat.{pairs_from, from-more, from-none, pairs_of, pairs-part}
 use Rattle.budgets.specs.parts.Engine.{note, noted, note_line, noted_line, Notable, AllNotable, MoveNoted, Noted, Runnable, PhaseRun}
 use Rattle.budgets.proofs.Shows.{note-long, note_else, note-here}
 
@@ -38,11 +37,11 @@ pub move-noted : (racking : List ℕ) (m : Pair) (line bits words bits' : List �
 unfolding note note_line one_more
 move-noted racking m line bits words bits' e q = record { line-is = refl; bits_are = q ∙ rw e }
 
--- the moves left of a log's can be noted, and end as all of them do
-pub record Noting (log : List ℕ) (i high : ℕ) (racking line bits line' bits' : List ℕ) : Type 0 where
-  pub notable : AllNotable racking (pairs_in log i high) line bits
-  pub line-ends : noted_line racking (pairs_in log i high) line ≡ line'
-  pub bits-end : noted (pairs_in log i high) bits ≡ bits'
+-- the moves left of a list's can be noted, and end as all of them do
+pub record Noting (list : List ℕ) (i : ℕ) (racking line bits line' bits' : List ℕ) : Type 0 where
+  pub notable : AllNotable racking (pairs_from list i) line bits
+  pub line-ends : noted_line racking (pairs_from list i) line ≡ line'
+  pub bits-end : noted (pairs_from list i) bits ≡ bits'
 
 -- the first of moves that can be noted, and those behind it
 first : {P : Pair → Type 0} {m : Pair} {ms : List Pair} → All P (m ∷ ms) → P m
@@ -51,46 +50,46 @@ first (more h r) = h
 rest : {P : Pair → Type 0} {m : Pair} {ms : List Pair} → All P (m ∷ ms) → All P ms
 rest (more h r) = r
 
-module _ (log : List ℕ) (i high : ℕ) (fits : high ≤ length log) {racking line bits line' bits' : List ℕ} (s : Noting log i high racking line bits line' bits') where
+module _ (list : List ℕ) (i : ℕ) {racking line bits line' bits' : List ℕ} (s : Noting list i racking line bits line' bits') where
   abbrev m : Pair
-  m = (get_or log i 0, get_or log (i + 1) 0)
+  m = (get_or list (2 * i) 0, get_or list (2 * i + 1) 0)
 
-  module _ (l : i + 2 ≤ high) where
-    split : AllNotable racking (m ∷ pairs_in log (i + 2) high) line bits
-    split = rw (pairs-more log i high fits l) at s.notable
+  module _ (l : i < length list / 2) where
+    split : AllNotable racking (m ∷ pairs_from list (i + 1)) line bits
+    split = rw (from-more list i l) at s.notable
 
     -- the first of those left can be noted
     pub noting-first : Notable racking m
     noting-first = first split.moves
 
-    pub noting-room : room_of line (get_or racking (get_or log i 0) 0) < 65535
-    noting-room = omega (arith, split.counts-fit (get_or racking (get_or log i 0) 0) noting-first.racked)
+    pub noting-room : room_of line (get_or racking m.0 0) < 65535
+    noting-room = omega (arith, split.counts-fit (get_or racking m.0 0) noting-first.racked)
 
     -- and then those after it
-    pub noting-more : {line₂ bits₂ : List ℕ} → MoveNoted racking m line bits line₂ bits₂ → Noting log (i + 2) high racking line₂ bits₂ line' bits'
+    pub noting-more : {line₂ bits₂ : List ℕ} → MoveNoted racking m line bits line₂ bits₂ → Noting list (i + 1) racking line₂ bits₂ line' bits'
     unfolding noted noted_line
     noting-more {line₂} {bits₂} n = rw (n.line-is, n.bits_are) (record {
       notable = record {
         moves = rest split.moves;
-        counts-fit = λ p h. elim (ℕ_discrete p (get_or racking (get_or log i 0) 0)) [
-          | yes e ↦ rw e (omega (arith, note-here racking m line noting-first.racked s.notable.line-long, split.counts-fit (get_or racking (get_or log i 0) 0) noting-first.racked))
+        counts-fit = λ p h. elim (ℕ_discrete p (get_or racking m.0 0)) [
+          | yes e ↦ rw e (omega (arith, note-here racking m line noting-first.racked s.notable.line-long, split.counts-fit (get_or racking m.0 0) noting-first.racked))
           | no d ↦ omega (arith, note_else racking m line noting-first.racked (4288 + p) (λ q. d (omega arith)), split.counts-fit p h)
         ];
         line-long = note-long racking m line noting-first.racked ∙ s.notable.line-long;
         bits-long = length-note m bits ∙ s.notable.bits-long;
       };
-      line-ends = rw (pairs-more log i high fits l) at s.line-ends;
-      bits-end = rw (pairs-more log i high fits l) at s.bits-end;
+      line-ends = rw (from-more list i l) at s.line-ends;
+      bits-end = rw (from-more list i l) at s.bits-end;
     })
 
   -- none is left
-  pub noting_line : high < i + 2 → line ≡ line'
+  pub noting_line : length list / 2 ≤ i → line ≡ line'
   unfolding noted_line
-  noting_line l = rw (pairs-none log i high fits l) at s.line-ends
+  noting_line l = rw (from-none list i l) at s.line-ends
 
-  pub noting-bits : high < i + 2 → bits ≡ bits'
+  pub noting-bits : length list / 2 ≤ i → bits ≡ bits'
   unfolding noted
-  noting-bits l = rw (pairs-none log i high fits l) at s.bits-end
+  noting-bits l = rw (from-none list i l) at s.bits-end
 
 module _ (ends : List ℕ) (b k : ℕ) (t : Tally) (h : Held) (racking line bits log line₁ bits₁ log' : List ℕ) (planned made : ℕ) (w : Runnable ends b k t h racking line bits log)
     (p : PhasePlanned ends line bits log (2 * t.moves) line₁ bits₁ log' planned) (e : made ≡ min planned (k - t.moves)) where
@@ -103,27 +102,29 @@ module _ (ends : List ℕ) (b k : ℕ) (t : Tally) (h : Held) (racking line bits
   made-few : made ≤ length all
   made-few = omega (arith, p.written.count-is)
 
-  -- the pairs carried, as they stand in the log
-  pub pairs_made : pairs_in log' (2 * t.moves) high ≡ take (k - t.moves) all
+  -- the part of the log where the pairs carried stand
+  abbrev part : List ℕ
+  part = take (high - 2 * t.moves) (drop (2 * t.moves) log')
+
+  -- they are the first of the plan
+  pub pairs_made : unflat part ≡ take (k - t.moves) all
   pairs_made =
       let few : made ≡ min (k - t.moves) (length all) = omega (arith, p.written.count-is) in
-      pairs_of log' log (2 * t.moves) high made all p.written.list (omega (arith, length-flat all, w.plannable.fits)) refl made-few
+      pairs-part log' (2 * t.moves) high (omega arith)
+      ∙ pairs_of log' log (2 * t.moves) high made all p.written.list (omega (arith, length-flat all, w.plannable.fits)) refl made-few
       ∙ ap (λ (n : ℕ). take n all) few
       ∙ take_min (k - t.moves) all
 
-  pub made-fits : high ≤ length log'
-  made-fits = rw (p.written.list, length-sets) (omega (arith, made-few, w.plannable.fits))
-
   -- their ends are slots of the table
-  pub made-slots : AllSlots (length h.places) (pairs_in log' (2 * t.moves) high)
+  pub made-slots : AllSlots (length h.places) (unflat part)
   made-slots = rw pairs_made (all_take (k - t.moves) w.slots)
 
   -- the tally has room for them
-  pub made_counted : t.moves + high < 18446744073709551615
-  made_counted = omega (arith, made-few, w.few, w.plan-few)
+  pub made_counted : t.moves + length part < 18446744073709551615
+  made_counted = omega (arith, length-take (high - 2 * t.moves) (drop (2 * t.moves) log'), made-few, w.few, w.plan-few)
 
   -- they can be noted
-  pub made-notable : AllNotable racking (pairs_in log' (2 * t.moves) high) line₁ bits₁
+  pub made-notable : AllNotable racking (unflat part) line₁ bits₁
   made-notable = record {
     moves = all_map (λ m a. record { from_lt = omega (arith, a.from_lt, w.small); to_lt = omega (arith, a.to_lt, w.small); racked = w.racked m.0 a.from_lt }) made-slots;
     counts-fit = λ q l.
@@ -141,7 +142,7 @@ module _ (ends : List ℕ) (b k : ℕ) (t : Tally) (h : Held) (racking line bits
   }
 
   -- carried, and noted
-  pub phase-run : {t' : Tally} {h' : Held} {line' bits' : List ℕ} → Carried b (pairs_in log' (2 * t.moves) high) h t h' t' → Noted racking (pairs_in log' (2 * t.moves) high) line₁ bits₁ line' bits'
+  pub phase-run : {t' : Tally} {h' : Held} {line' bits' : List ℕ} → Carried b (unflat part) h t h' t' → Noted racking (unflat part) line₁ bits₁ line' bits'
       → PhaseRun ends b k t h racking line bits log t' h' line' bits' log'
   phase-run c n = record {
     line₁ = line₁;

@@ -1,12 +1,12 @@
 // The engine that makes moves, phase by phase, as many as an allowance permits.
-ghost use Rattle.std.specs.Prelude.{◌≡◌, ◌+◌, ◌*◌, ◌≤◌, ◌<◌, length, get_or};
+ghost use Rattle.std.specs.Prelude.{◌≡◌, ◌*◌, ◌<◌, length, get_or};
 ghost use Rattle.racks.specs.Racks.{slots};
 ghost use Rattle.racks.specs.parts.Legal.{Spared};
 ghost use Rattle.racks.specs.Job.{racks_of, FitSpared};
 ghost use Rattle.tables.specs.parts.Tables.{Open};
 ghost use Rattle.bits.specs.parts.Bits.{WORDS};
 ghost use Rattle.queues.specs.parts.Line.{room_of, LINE};
-ghost use Rattle.carrying.specs.parts.Carrying.{pairs_in};
+ghost use Rattle.carrying.specs.parts.Carrying.{unflat};
 ghost use Rattle.moves.specs.Moves.{held, outcome_of};
 ghost use Rattle.budgets.specs.parts.Engine.{Notable, AllNotable, MoveNoted, Noted, Runnable, PhaseRun, Going, Made};
 ghost use Rattle.budgets.specs.parts.Budgeted.{budgeted_by};
@@ -29,25 +29,23 @@ fn note_move(
     bits::parts::mark(bits, from);
     bits::parts::clear(bits, to);
     let k = line::ROOMS + racking[from] as usize;
-    line[k] = line[k] + 1;
+    line[k] += 1;
 }
 
-// The moves that stand in the log from `low` up to `high`, noted.
+// The moves of `pairs`, from and to of each, noted.
 pub fn note_moves(
-    log: &[u16],
-    low: usize,
-    high: usize,
+    pairs: &[u16],
     racking: &[u8; Job::MAX_SLOTS],
     line: &mut [u16; line::LINE],
     bits: &mut [u64; bits::parts::WORDS],
 )
-    requires { (low ≤ high) × (high ≤ length log.now) × AllNotable racking.now (pairs_in log.now low high) line.old bits.old }
-    ensures { Noted racking.now (pairs_in log.now low high) line.old bits.old line.new bits.new }
+    requires { AllNotable racking.now (unflat pairs.now) line.old bits.old }
+    ensures { Noted racking.now (unflat pairs.now) line.old bits.old line.new bits.new }
 {
-    let mut i = low;
-    while i + 2 <= high {
-        note_move(log[i] as usize, log[i + 1] as usize, racking, line, bits);
-        i = i + 2;
+    for i in 0..pairs.len() / 2 {
+        let from = pairs[2 * i] as usize;
+        let to = pairs[2 * i + 1] as usize;
+        note_move(from, to, racking, line, bits);
     }
 }
 
@@ -69,11 +67,11 @@ pub fn run_phase(
 {
     let low = 2 * tally.moves;
     let planned = pairing::parts::plan_phase(ends, line, bits, log, low);
-    let left = k - tally.moves;
-    let made = racks::parts::smaller(planned, left);
+    let made = planned.min(k - tally.moves);
     let high = low + 2 * made;
-    let after = carrying::parts::carry(log, low, high, places, cards, b, tally);
-    note_moves(log, low, high, racking, line, bits);
+    let pairs = &log[low..high];
+    let after = carrying::parts::carry(pairs, places, cards, b, tally);
+    note_moves(pairs, racking, line, bits);
     after
 }
 
@@ -93,10 +91,8 @@ pub fn run_moves(
     ensures { Made (racks_of job) b k (held places.old cards.old) (held places.new cards.new) result }
 {
     let mut tally = Tally::none();
-    while tally.moves < k {
-        if bits[line::WAITING] == 0 {
-            return tally;
-        }
+    // Kept: no counted loop, since each phase makes as many moves as it has pairs.
+    while tally.moves < k && bits[line::WAITING] != 0 {
         tally = run_phase(
             &job.ends, b, k, tally, places, cards, racking, line, bits, log,
         );

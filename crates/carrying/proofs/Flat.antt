@@ -1,7 +1,7 @@
 -- Laws of the moves that stand in a list of numbers. Assumes nothing.
 use mathlib.Core.Path.{◌≡◌, refl, ap, sym, ◌∙◌}
 use mathlib.Core.List.{List, [], ◌∷◌, ◌++◌, append_assoc}
-use Prim.Native.Nat.{ℕ, zero, suc, ◌+◌, ◌*◌, ◌/◌, ◌≤◌, ◌<◌}
+use Prim.Native.Nat.{ℕ, zero, suc, ◌+◌, ◌*◌, ◌-◌, ◌/◌, ◌≤◌, ◌<◌}
 use native.Mathlib.Nat.{zero-add, suc-add}
 use native.Mathlib.Numerals.{add-one, add-two}
 use native.Mathlib.Omega.{arith}
@@ -74,6 +74,13 @@ slice-drop : (m n : ℕ) (l : List ℕ) → slice m (m + n) l ≡ take n (drop m
 slice-drop zero n l = rw zero-add
 slice-drop (suc m) n [] = rw (suc-add, take-nil {A = ℕ} n)
 slice-drop (suc m) n (x ∷ l) = rw suc-add (slice-drop m n l)
+
+-- as the code takes a part of a list, from one end to the other
+pub pairs-part : (list : List ℕ) (low high : ℕ) → low ≤ high → unflat (take (high - low) (drop low list)) ≡ pairs_in list low high
+unfolding pairs_in
+pairs-part list low high l =
+    let e : high ≡ low + (high - low) = omega arith in
+    ap unflat (sym (ap (λ (h : ℕ). slice low h list) e ∙ slice-drop low (high - low) list))
 
 -- where a list of moves was stored, its first k pairs are read
 pub pairs_of : (list lent : List ℕ) (low high k : ℕ) (ms : List Pair) → list ≡ sets lent low (flat ms) → low + length (flat ms) ≤ length lent
