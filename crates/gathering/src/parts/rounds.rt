@@ -48,7 +48,7 @@ fn close_round(
 {
     let low = 2 * before.moves;
     let high = 2 * made.moves;
-    owed::parts::pay_moves(log, low, high, racking, owes, awaits);
+    owed::parts::pay_moves(&log[low..high], racking, owes, awaits);
     note_end(log, before.phases, made.moves);
     made.add_phase()
 }
@@ -72,6 +72,7 @@ pub fn run_phases(
     let cells = job.racks * Job::MAX_RACKS;
     let mut tally = Tally::none();
     let mut cell = owed::parts::next_awaited(awaits, 0, cells);
+    // Kept: no counted loop, since the cursor stays at a cell until nothing is awaited there, and then jumps to the next.
     while cell < cells {
         let made = budgets::parts::run_phase(
             &job.ends,

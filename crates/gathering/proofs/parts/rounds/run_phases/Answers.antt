@@ -1,7 +1,7 @@
 use Rattle.racks.proofs.Jobs.{sound-racks, sound-count}
 use native.Mathlib.Omega.{arith}
-use mathlib.Core.Path.{refl, ap}
-use Prim.Native.Nat.{◌*◌, ◌-◌, ◌≤◌}
+use mathlib.Core.Path.{ap}
+use Prim.Native.Nat.{◌*◌, ◌≤◌}
 use Rattle.gathering.proofs.Gathers.{sofar-first, sofar_runnable, sofar_closable, sofar-more, sofar-next, sofar-done}
 use Rattle.gathering.proofs.parts.rounds.run_phases.Goals as goal
 use Rattle.gathering.proofs.parts.rounds.run_phases.Goals.{Start}
@@ -17,31 +17,25 @@ pub next_awaited-cell-requires : goal.next_awaited-cell-requires
 next_awaited-cell-requires c = (omega arith, few (goal.at.next_awaited-cell-requires c).Start)
 
 pub loop-cell-init : goal.loop-cell-init
-loop-cell-init c = (refl, refl, refl, rw c.none-tally.ensures (sofar-first c.requires c.next_awaited-cell.ensures))
+loop-cell-init c = rw c.none-tally.ensures (sofar-first c.requires c.next_awaited-cell.ensures)
 
 pub run_phase-made-requires : goal.run_phase-made-requires
-run_phase-made-requires c = sofar_runnable c.loop-cell.invariant.3 (omega arith) (few (goal.at.run_phase-made-requires c).Start)
+run_phase-made-requires c = sofar_runnable c.loop-cell.invariant (omega arith) (few (goal.at.run_phase-made-requires c).Start)
 
 pub close_round-tally-requires : goal.close_round-tally-requires
-close_round-tally-requires c = sofar_closable c.loop-cell.invariant.3 c.loop-cell-test.true (few (goal.at.close_round-tally-requires c).Start) c.run_phase-made.ensures
+close_round-tally-requires c = sofar_closable c.loop-cell.invariant c.loop-cell-test.true (few (goal.at.close_round-tally-requires c).Start) c.run_phase-made.ensures
 
 pub next_awaited-cell-requires-in-loop-cell : goal.next_awaited-cell-requires-in-loop-cell
-next_awaited-cell-requires-in-loop-cell c = (c.loop-cell.invariant.3.few, few (goal.at.next_awaited-cell-requires-in-loop-cell c).Start)
+next_awaited-cell-requires-in-loop-cell c = (c.loop-cell.invariant.few, few (goal.at.next_awaited-cell-requires-in-loop-cell c).Start)
 
 pub loop-cell-smaller : goal.loop-cell-smaller
 loop-cell-smaller c =
-    let m = sofar-more c.loop-cell.invariant.3 c.loop-cell-test.true (few (goal.at.loop-cell-smaller c).Start) c.run_phase-made.ensures c.close_round-tally.ensures in
+    let m = sofar-more c.loop-cell.invariant c.loop-cell-test.true (few (goal.at.loop-cell-smaller c).Start) c.run_phase-made.ensures c.close_round-tally.ensures in
     omega (arith, m.0, m.1)
 
 pub loop-cell-preserved : goal.loop-cell-preserved
 loop-cell-preserved c =
-    let l = c.loop-cell in
-    let k = c.run_phase-made.auto in (
-      omega (arith, k.places, l.invariant.0),
-      omega (arith, k.cards, l.invariant.1),
-      omega (arith, c.close_round-tally.auto.log, k.log, l.invariant.2),
-      sofar-next l.invariant.3 c.loop-cell-test.true (few (goal.at.loop-cell-preserved c).Start) c.run_phase-made.ensures c.close_round-tally.ensures c.next_awaited-cell-in-loop-cell.ensures,
-    )
+    sofar-next c.loop-cell.invariant c.loop-cell-test.true (few (goal.at.loop-cell-preserved c).Start) c.run_phase-made.ensures c.close_round-tally.ensures c.next_awaited-cell-in-loop-cell.ensures
 
 pub returns : goal.returns
-returns c = sofar-done c.loop-cell.invariant.3 (ap (λ n. n * 64) (sound-racks _ c.requires.going.opened.sound)) (omega arith)
+returns c = sofar-done c.loop-cell.invariant (ap (λ n. n * 64) (sound-racks _ c.requires.going.opened.sound)) (omega arith)

@@ -1,6 +1,4 @@
-use mathlib.Core.Path.{◌≡◌}
 use Prim.Native.Nat.{◌-◌}
-use lib.ListN.{length}
 use Rattle.racks.specs.Job.{racks_of}
 use Rattle.moves.specs.Moves.{held}
 use Rattle.gathering.proofs.Gathers.{Sofar}
@@ -8,8 +6,7 @@ use Rattle.gathering.proofs.parts.rounds.run_phases.Given as goal
 
 abbrev pub invariant-loop-cell : goal.invariant-loop-cell
 invariant-loop-cell l =
-    (length l.places ≡ length l.initial.places) × (length l.cards ≡ length l.initial.cards) × (length l.log ≡ length l.initial.log)
-    × Sofar (racks_of l.job) l.job.ends l.b (held l.initial.places l.initial.cards) l.tally (held l.places l.cards) l.racking l.line l.bits l.log l.owes l.awaits l.cells l.cell
+    Sofar (racks_of l.job) l.job.ends l.b (held l.initial.places l.initial.cards) l.tally (held l.places l.cards) l.racking l.line l.bits l.log l.owes l.awaits l.cells l.cell
 
 abbrev pub decreases-loop-cell : goal.decreases-loop-cell
 decreases-loop-cell l =
