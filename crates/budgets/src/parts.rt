@@ -1,5 +1,5 @@
 // The engine that makes moves, phase by phase, as many as an allowance permits.
-ghost use Rattle.std.specs.Prelude.{◌≡◌, ◌+◌, ◌*◌, ◌<◌, length, get_or, ◌≤◌};
+ghost use Rattle.std.specs.Prelude.{◌≡◌, ◌*◌, ◌≤◌, ◌<◌, length, get_or};
 ghost use Rattle.answers.specs.Answers.{answered};
 ghost use Rattle.racks.specs.Limits.{BYTES};
 ghost use Rattle.racks.specs.Racks.{slots};

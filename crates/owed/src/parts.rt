@@ -1,5 +1,5 @@
 // The flat tables of what racks owe and await: counted from a table, paid for with each move, and read for what is left.
-ghost use Rattle.std.specs.Prelude.{◌≡◌, ◌-◌, ◌≤◌, ◌<◌, length, get_or};
+ghost use Rattle.std.specs.Prelude.{◌≡◌, ◌≤◌, ◌<◌, length, get_or};
 ghost use Rattle.racks.specs.Limits.{CELLS, RACKS, SLOTS};
 ghost use Rattle.racks.specs.Job.{racks_of};
 ghost use Rattle.tables.specs.parts.Tables.{Open};

@@ -1,21 +1,22 @@
 -- The racks placed in the line, one at a time: a rack's free slots counted, and its numbers stored. Assumes nothing.
-use mathlib.Core.Path.{◌≡◌, sym, ◌∙◌}
-use mathlib.Core.List.{List}
-use Prim.Native.Nat.{ℕ, suc, ◌+◌, ◌≤◌, ◌<◌}
+use mathlib.Core.Path.{◌≡◌, sym, ap, ◌∙◌}
+use mathlib.Core.List.{List, ◌++◌}
+use Prim.Native.Nat.{ℕ, zero, suc, ◌+◌, ◌-◌, ◌≤◌, ◌<◌}
 use native.Mathlib.Omega.{arith}
 use native.Mathlib.Decide.{ℕ_discrete, dec_le}
 use native.Mathlib.Numerals.{add-one}
-use lib.ListN.{length}
+use lib.ListN.{length, take, drop, length-take, length-drop, take-append-drop}
 use borrow.Author.Tests.{le-leb, lt-leb}
 use Rattle.counting.specs.Tests.{◌and◌, bit}
 use Rattle.counting.specs.Count.{count}
 use Rattle.counting.proofs.Tests.{and-off_l}
-use Rattle.counting.proofs.Count.{count-zero, count_cong}
+use Rattle.counting.proofs.Count.{count-zero, count_cong, count_none, count-more}
 use Rattle.racks.specs.Racks.{Rack, base}
 use Rattle.racks.specs.Table.{free, free_on}
 use Rattle.plans.specs.Plan.{room}
 use Rattle.queues.specs.parts.Line.{Blank}
 use Rattle.queues.specs.parts.Queued.{free_from, begins, placed, Placed}
+use Rattle.queues.proofs.Openings.{part-free}
 use Rattle.queues.proofs.OpenSlots.{rooms-short, on-off, on-here}
 use Rattle.queues.proofs.Line.{placed-long, placed_else, placed-head, placed-tail, placed-room}
 
@@ -41,10 +42,26 @@ free-room racks places p l =
     ])
     ∙ sym (rooms-short racks places p l)
 
+-- the free slots of a part of a table, counted on their own
+free-part : (places slots behind : List ℕ) (low : ℕ) → drop low places ≡ slots ++ behind → (n : ℕ) → n ≤ length slots
+    → count n (free slots) ≡ count (low + n) (free_from places low)
+free-part places slots behind low e zero l = count_none (free slots) ∙ sym (free-none places low (low + 0) (omega arith))
+free-part places slots behind low e (suc n) l =
+    let i : low + suc n ≡ low + n + 1 = omega arith in
+    let j : suc n ≡ n + 1 = omega arith in
+    rw (i, j)
+    (sym (count-more n (free slots))
+    ∙ free_more places low (low + n) _ _ (omega arith) (free-part places slots behind low e n (omega arith)) (ap bit (part-free places slots behind low e n (omega arith))))
+
 -- as the code counts them
-pub rooms-counted : (racks : List Rack) (places : List ℕ) (p low high r : ℕ) → p < length racks → low ≡ base racks p → high ≡ base racks (suc p)
-    → r ≡ count high (free_from places low) → r ≡ room racks places p
-rooms-counted racks places p low high r l el eh e = e ∙ rw (el, eh) (free-room racks places p l)
+pub rooms-counted : (racks : List Rack) (places : List ℕ) (p low high r : ℕ) → p < length racks → low ≡ base racks p → high ≡ base racks (suc p) → low ≤ high → high ≤ length places
+    → r ≡ count (length (take (high - low) (drop low places))) (free (take (high - low) (drop low places))) → r ≡ room racks places p
+rooms-counted racks places p low high r l el eh up within e =
+    let slots : List ℕ = take (high - low) (drop low places) in
+    let k : low + length slots ≡ high = omega (arith, length-take (high - low) (drop low places), length-drop low places) in
+    e
+    ∙ free-part places slots (drop (high - low) (drop low places)) low (sym (take-append-drop (high - low) (drop low places))) (length slots) (omega arith)
+    ∙ rw (k, el, eh) (free-room racks places p l)
 
 -- no rack is placed
 pub placed-none : (racks : List Rack) (places line : List ℕ) → Blank 4352 line → Placed racks places 0 line

@@ -1,26 +1,27 @@
 // The queues of arrivals: for each rack, the slots of the cards away to it, ascending, in its own stretch of the line.
-ghost use Rattle.std.specs.Prelude.{◌≡◌, ◌+◌, ◌≤◌, ◌<◌, length};
+ghost use Rattle.std.specs.Prelude.{◌≡◌, ◌≤◌, ◌<◌, length};
 ghost use Rattle.counting.specs.Count.{count};
 ghost use Rattle.racks.specs.Limits.{RACKS, SLOTS};
 ghost use Rattle.racks.specs.Racks.{slots};
+ghost use Rattle.racks.specs.Table.{free};
 ghost use Rattle.racks.specs.Job.{racks_of, Sound};
 ghost use Rattle.tables.specs.parts.Tables.{Open};
 ghost use Rattle.bits.specs.parts.Bits.{WORDS};
 ghost use Rattle.queues.specs.parts.Line.{LINE, Blank};
-ghost use Rattle.queues.specs.parts.Queued.{free_from, placed, Placed, Queueable, queued, Awaiting};
+ghost use Rattle.queues.specs.parts.Queued.{placed, Placed, Queueable, queued, Awaiting};
 ghost use Rattle.queues.specs.parts.Ready.{Started};
 
 use crate::parts::{line, openings};
 use racks::Job;
 
-// How many of the slots from `low` up to `high` are free.
-pub fn count_free(places: &[u16], low: usize, high: usize) -> u16
-    requires { (low ≤ high) × (high ≤ length places.now) × (high ≤ SLOTS) }
-    ensures { result ≡ count high (free_from places.now low) }
+// How many of these slots are free.
+pub fn count_free(slots: &[u16]) -> u16
+    requires { length slots.now ≤ SLOTS }
+    ensures { result ≡ count (length slots.now) (free slots.now) }
 {
     let mut free: u16 = 0;
-    for g in low..high {
-        free += u16::from(places[g] == Job::FREE);
+    for entry in slots {
+        free += u16::from(*entry == Job::FREE);
     }
     free
 }
@@ -44,7 +45,7 @@ fn place_racks(job: Job, places: &[u16], line: &mut [u16; line::LINE])
     let mut low: u16 = 0;
     for p in 0..job.racks {
         let high = job.ends[p];
-        let free = count_free(places, low as usize, high as usize);
+        let free = count_free(&places[low as usize..high as usize]);
         place_rack(line, p, low, free);
         low = high;
     }

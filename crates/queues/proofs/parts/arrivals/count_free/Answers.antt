@@ -1,29 +1,29 @@
 use native.Mathlib.Omega.{arith}
 use mathlib.Core.Path.{◌≡◌, sym, ◌∙◌}
-use Prim.Native.Nat.{◌≤◌}
+use lib.ListN.{length}
 use Rattle.racks.specs.Table.{free}
 use Rattle.racks.proofs.Table.{read-dest}
 use Rattle.counting.specs.Tests.{bit}
 use Rattle.counting.proofs.Tests.{bit_le}
+use Rattle.counting.proofs.Count.{count_none, count_le, count-more}
 use Rattle.queues.proofs.Counts.{from-bit}
-use Rattle.queues.proofs.Placing.{free-none, free_more}
 use Rattle.queues.proofs.parts.arrivals.count_free.Goals as goal
 use Rattle.queues.proofs.parts.arrivals.count_free.Goals.{After-from-free}
 
 -- what is added: whether the slot is free
-adds : (c : After-from-free) → c.from-free.result ≡ bit (free c.args.places.now c.loop-g.g)
+adds : (c : After-from-free) → c.from-free.result ≡ bit (free c.args.slots.now c.loop-entry.entry-index)
 unfolding free
-adds c = rw (read-dest c.args.places.now c.loop-g.g (omega arith)) at (c.from-free.ensures ∙ from-bit _)
+adds c = rw (read-dest c.args.slots.now c.loop-entry.entry-index (omega arith)) at (c.from-free.ensures ∙ from-bit _)
 
--- which is 0 or 1
-one : (c : After-from-free) → c.from-free.result ≤ 1
-one c = bit_le _ (free c.args.places.now c.loop-g.g) (adds c)
+pub loop-entry-init : goal.loop-entry-init
+loop-entry-init c = sym (count_none _)
 
-pub loop-g-init : goal.loop-g-init
-loop-g-init c = (omega arith, sym (free-none _ _ _ (omega arith)))
+pub overflow_add-free : goal.overflow_add-free
+overflow_add-free c =
+    omega (arith, bit_le _ _ (adds c), count_le c.loop-entry.entry-index (free c.args.slots.now))
 
-pub loop-g-preserved : goal.loop-g-preserved
-loop-g-preserved c = (omega (arith, one c), free_more _ _ _ _ _ (omega arith) c.loop-g.invariant.1 (adds c))
+pub loop-entry-preserved : goal.loop-entry-preserved
+loop-entry-preserved c = omega (arith, adds c, count-more c.loop-entry.entry-index (free c.args.slots.now))
 
 pub returns : goal.returns
-returns c = let l = c.loop-g in let e : l.g ≡ c.args.high = omega arith in rw e at l.invariant.1
+returns c = let e : c.loop-entry.entry-index ≡ length c.args.slots.now = omega arith in rw e at c.loop-entry.invariant
