@@ -2,7 +2,7 @@
 use mathlib.Core.Path.{◌≡◌, refl, sym, ap, ◌∙◌}
 use mathlib.Core.Logic.{◌≢◌}
 use mathlib.Core.List.{List, [], ◌∷◌, ◌++◌, append_assoc}
-use Prim.Native.Nat.{ℕ, ◌+◌, ◌-◌, ◌*◌, ◌≤◌, ◌<◌}
+use Prim.Native.Nat.{ℕ, ◌+◌, ◌*◌, ◌≤◌, ◌<◌}
 use native.Mathlib.Omega.{arith}
 use native.Mathlib.Decide.{ℕ_discrete}
 use native.Mathlib.Nat.{suc-mul, mul-le-mul_right}
@@ -27,14 +27,13 @@ use Rattle.racks.specs.parts.Legal.{Legal, Spared}
 use Rattle.racks.specs.declared.Job.{Job}
 use Rattle.racks.proofs.Geometry.{spare-is, spare-end, end_le}
 use Rattle.racks.proofs.Jobs.{sound-racks}
-use Rattle.racks.proofs.Passing.{At, at_bounds}
 use Rattle.racks.proofs.Table.{read-dest}
 use Rattle.racks.proofs.LegalTable.{legal-slot, spare_lt}
 use Rattle.tables.specs.parts.Tables.{OpenCards, refusal_by, cards_number}
 use Rattle.tables.proofs.Refusals.{placeless_by}
 use Rattle.tables.proofs.Tables.{cards-racks, same-racks, of-card_refusal}
 use Rattle.jobwriter.specs.Writing.{numeral_of, numerals_of, file_entry, cap_of, file_numbers, file_for, write_checks, filed}
-use Rattle.jobwriter.specs.parts.Puts.{Short, Put, Roomy, Writable, write_number, filed_by}
+use Rattle.jobwriter.specs.parts.Puts.{Short, Put, Roomy, Gives, Writable, write_number, filed_by}
 use Rattle.jobwriter.proofs.Puts.{one_group, numeral-length, put_then, numerals-append, all-few}
 
 -- an entry as the file has it
@@ -52,7 +51,7 @@ entry_at places g x h e = e ∙ sym (get_d-each file_entry places g 0 0 h)
 
 -- m_p: from where rack p begins to its spares
 module _ (racks : List Rack) where
-  cap-at : (p : ℕ) → p < length racks → base racks p + get_or (each cap_of racks) p 0 ≡ spare_of racks p
+  pub cap-at : (p : ℕ) → p < length racks → base racks p + get_or (each cap_of racks) p 0 ≡ spare_of racks p
   unfolding users rack_at
   cap-at p h = omega (arith, spare-is racks p, get_d-each cap_of racks p (record { users = 0; spares = 0 }) 0 h)
 
@@ -93,29 +92,19 @@ module _ (racks : List Rack) where
         length-append (numeral_of (length racks)) (numeral_of b),
       )
 
--- m_p as the code reads it: rack p begins at slot low
-pub record Cap (job : Job) (p low : ℕ) : Type 0 where
-  pub rack : p < 64
-  pub one : p < length (each cap_of (racks_of job))
-  pub up : low ≤ get_or job.spares p 0
-  pub is : get_or job.spares p 0 - low ≡ get_or (each cap_of (racks_of job)) p 0
+-- as many m_p as racks
+pub caps-long : {job : Job} → Sound job → length (each cap_of (racks_of job)) ≡ job.racks
+caps-long {job} s = omega (arith, length-each cap_of (racks_of job), sound-racks job s)
 
-module _ {job : Job} (s : Sound job) where
-  -- there is one more rack
-  pub cap-next : {p low : ℕ} → At job p low → p < job.racks → Cap job p low
-  cap-next {p} {low} a h =
-      let n = at_bounds s a h in
-      let c = cap-at (racks_of job) p n.one in
-      record {
-        rack = n.rack;
-        one = omega (arith, length-each cap_of (racks_of job), n.one);
-        up = omega (arith, c, n.spares, a.low-is);
-        is = omega (arith, c, n.spares, a.low-is);
-      }
+-- a closure that gives the m_p by the racks
+pub caps-given : {job : Job} {pre : ℕ → Type 0} {post : ℕ → ℕ → Type 0} → Sound job → ((p : ℕ) → p < job.racks → pre p)
+    → ((p x : ℕ) → p < job.racks → post p x → x ≡ get_or (each cap_of (racks_of job)) p 0) → Gives pre post job.racks (each cap_of (racks_of job))
+caps-given {job} s f g = record { as_many = sym (caps-long s); called = f; given = g; short = caps-short (racks_of job) s.small }
 
-  -- there is none
-  pub caps-all : {p low : ℕ} → At job p low → job.racks ≤ p → length (each cap_of (racks_of job)) ≤ p
-  caps-all a h = omega (arith, length-each cap_of (racks_of job), sound-racks job s)
+-- and one that gives the entries by the slots
+pub entries-given : (places : List ℕ) {pre : ℕ → Type 0} {post : ℕ → ℕ → Type 0} → Short (each file_entry places) → ((g : ℕ) → g < length places → pre g)
+    → ((g x : ℕ) → g < length places → post g x → x ≡ file_entry (get_or places g 0)) → Gives pre post (length places) (each file_entry places)
+entries-given places short f h = record { as_many = sym (length-each file_entry places); called = f; given = λ g x l p. entry_at places g x l (h g x l p); short = short }
 
 -- what acceptance gives the writer
 module _ {job : Job} {b : ℕ} {places cards racking : List ℕ} (o : OpenCards job b places cards racking) where

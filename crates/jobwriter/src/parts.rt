@@ -1,12 +1,12 @@
 // What the writer puts together: numbers counted, then put one behind another into the lent buffer, then the card bytes.
-ghost use Rattle.std.specs.Prelude.{◌≡◌, ◌+◌, ◌≤◌, ◌<◌, length};
+ghost use Rattle.std.specs.Prelude.{◌≡◌, List, ℕ, ◌+◌, ◌≤◌, ◌<◌, length, get_or};
 ghost use Rattle.std.proofs.lemmas.List.Edits.{sets};
 ghost use Rattle.counting.specs.Lists.{each};
 ghost use Rattle.racks.specs.Limits.{SLOTS};
 ghost use Rattle.racks.specs.Job.{racks_of, Sound, FitSpared};
 ghost use Rattle.answers.specs.Answers.{sized_of};
 ghost use Rattle.jobwriter.specs.Writing.{numeral_of, numerals_of, file_entry, cap_of, file_numbers, file_for};
-ghost use Rattle.jobwriter.specs.parts.Puts.{Short, Put, Roomy, Writable, filed_by};
+ghost use Rattle.jobwriter.specs.parts.Puts.{Short, Put, Roomy, Gives, Writable, filed_by};
 
 use answers::{Answer, SizeAnswer};
 use racks::Job;
@@ -27,74 +27,42 @@ fn put_number(out: &mut [u8], at: usize, x: u16) -> usize
     requires { (x < 16384) × (at + 1 < length out.old) }
     ensures { Put (numeral_of x) out.old at out.new result }
 {
-    let more = tables::parts::one_if(128 <= x);
+    let more = u16::from(128 <= x);
     out[at] = (x % 128 + 128 * more) as u8;
     out[at + 1] = (x / 128) as u8;
     at + 1 + more as usize
 }
 
-// The m_p of a job, each from where its rack begins to its spares; the position behind them.
-fn put_caps(job: Job, out: &mut [u8], at: usize) -> usize
-    requires { Sound job × Roomy (each cap_of (racks_of job)) at out.old }
-    ensures { Put (numerals_of (each cap_of (racks_of job))) out.old at out.new result }
+// m_p of rack p: from where the rack begins to its spares.
+fn cap_at(job: &Job, p: usize) -> u16
+    requires { Sound job.now × (p < job.now.racks) }
+    ensures { result ≡ get_or (each cap_of (racks_of job.now)) p 0 }
+{
+    job.spares[p] - racks::parts::first_slot(&job.ends, p)
+}
+
+// n numbers, each by its place, put one behind another; the position behind them.
+fn put_numbers<F: Fn(usize) -> u16>(out: &mut [u8], at: usize, n: usize, number: F) -> usize
+    requires { (xs : List ℕ) × Gives (F.pre number) (F.post number) n xs × Roomy xs at out.old }
+    ensures { (xs : List ℕ) → Gives (F.pre number) (F.post number) n xs → Put (numerals_of xs) out.old at out.new result }
 {
     let mut next = at;
-    let mut low: u16 = 0;
-    let mut p: usize = 0;
-    while p < job.racks {
-        let m = job.spares[p] - low;
-        next = put_number(out, next, m);
-        low = job.ends[p];
-        p = p + 1;
+    for i in 0..n {
+        next = put_number(out, next, number(i));
     }
     next
 }
 
-// The entries; the position behind them.
-fn put_entries(out: &mut [u8], at: usize, places: &[u16]) -> usize
-    requires { Short (each file_entry places.now) × Roomy (each file_entry places.now) at out.old }
-    ensures { Put (numerals_of (each file_entry places.now)) out.old at out.new result }
-{
-    let mut next = at;
-    let mut g: usize = 0;
-    while g < places.len() {
-        let x = file_entry(places[g]);
-        next = put_number(out, next, x);
-        g = g + 1;
-    }
-    next
-}
-
-// How many bytes the m_p of a job are in the file: one each, and one more for each of two groups.
-fn caps_size(job: Job) -> usize
-    requires { Sound job }
-    ensures { result ≡ length (numerals_of (each cap_of (racks_of job))) }
+// How many bytes such numbers are in the file: one each, and one more for each of two groups.
+fn count_bytes<F: Fn(usize) -> u16>(n: usize, number: F) -> usize
+    requires { (xs : List ℕ) × Gives (F.pre number) (F.post number) n xs × (n ≤ SLOTS) }
+    ensures { (xs : List ℕ) → Gives (F.pre number) (F.post number) n xs → result ≡ length (numerals_of xs) }
 {
     let mut more: u16 = 0;
-    let mut low: u16 = 0;
-    let mut p: usize = 0;
-    while p < job.racks {
-        let m = job.spares[p] - low;
-        more = more + tables::parts::one_if(128 <= m);
-        low = job.ends[p];
-        p = p + 1;
+    for i in 0..n {
+        more += u16::from(128 <= number(i));
     }
-    p + more as usize
-}
-
-// How many bytes the entries are.
-fn entries_size(places: &[u16]) -> usize
-    requires { Short (each file_entry places.now) × (length places.now ≤ SLOTS) }
-    ensures { result ≡ length (numerals_of (each file_entry places.now)) }
-{
-    let mut more: u16 = 0;
-    let mut g: usize = 0;
-    while g < places.len() {
-        let x = file_entry(places[g]);
-        more = more + tables::parts::one_if(128 <= x);
-        g = g + 1;
-    }
-    g + more as usize
+    n + more as usize
 }
 
 // How many bytes all numbers of the file are: N has one group.
@@ -102,8 +70,10 @@ fn numbers_size(job: Job, b: usize, places: &[u16]) -> usize
     requires { Writable job b places.now }
     ensures { result ≡ length (numerals_of (file_numbers (racks_of job) b places.now)) }
 {
-    let more = tables::parts::one_if(128 <= b);
-    2 + more as usize + caps_size(job) + entries_size(places)
+    let more = usize::from(128 <= b);
+    let caps = count_bytes(job.racks, |p| cap_at(&job, p));
+    let entries = count_bytes(places.len(), |g| file_entry(places[g]));
+    2 + more + caps + entries
 }
 
 // The file, from the front of a buffer that has room for it. There are card bytes, which are put over what the last number left behind it.
@@ -113,9 +83,9 @@ fn put_file(job: Job, b: usize, places: &[u16], cards: &[u8], out: &mut [u8])
 {
     let mut next = put_number(out, 0, job.racks as u16);
     next = put_number(out, next, b as u16);
-    next = put_caps(job, out, next);
-    next = put_entries(out, next, places);
-    racks::parts::put_bytes(out, next, cards);
+    next = put_numbers(out, next, job.racks, |p| cap_at(&job, p));
+    next = put_numbers(out, next, places.len(), |g| file_entry(places[g]));
+    racks::parts::put(out, next, cards);
 }
 
 // Write file, by the job: the length first, then one pass.
