@@ -32,7 +32,7 @@ use Rattle.racks.proofs.LegalTable.{legal-slot, spare_lt}
 use Rattle.tables.specs.parts.Tables.{OpenCards, refusal_by, cards_number}
 use Rattle.tables.proofs.Refusals.{placeless_by}
 use Rattle.jobwriter.specs.Writing.{numeral_of, numerals_of, file_entry, cap_of, file_numbers, file_for, write_checks, filed}
-use Rattle.jobwriter.specs.parts.Puts.{Short, Put, Roomy, Writable, write_number, filed_by}
+use Rattle.jobwriter.specs.parts.Puts.{Short, Put, Roomy, Gives, Writable, write_number, filed_by}
 use Rattle.jobwriter.proofs.Puts.{one_group, numeral-length, put_then, numerals-append, all-few}
 use Rattle.std.specs.Prelude.{Err}
 use Rattle.answers.specs.Answers.{refusal_of, size_answered, sized_of}
@@ -100,6 +100,16 @@ module _ (racks : List Rack) where
 -- as many m_p as racks
 pub caps-long : {job : Job} → Sound job → length (each cap_of (racks_of job)) ≡ job.racks
 caps-long {job} s = omega (arith, length-each cap_of (racks_of job), sound-racks job s)
+
+-- a closure that gives the m_p by the racks
+pub caps-given : {job : Job} {pre : ℕ → Type 0} {post : ℕ → ℕ → Type 0} → Sound job → ((p : ℕ) → p < job.racks → pre p)
+    → ((p x : ℕ) → p < job.racks → post p x → x ≡ get_or (each cap_of (racks_of job)) p 0) → Gives pre post job.racks (each cap_of (racks_of job))
+caps-given {job} s f g = record { as_many = sym (caps-long s); called = f; given = g; short = caps-short (racks_of job) s.small }
+
+-- and one that gives the entries by the slots
+pub entries-given : (places : List ℕ) {pre : ℕ → Type 0} {post : ℕ → ℕ → Type 0} → Short (each file_entry places) → ((g : ℕ) → g < length places → pre g)
+    → ((g x : ℕ) → g < length places → post g x → x ≡ file_entry (get_or places g 0)) → Gives pre post (length places) (each file_entry places)
+entries-given places short f h = record { as_many = sym (length-each file_entry places); called = f; given = λ g x l p. entry_at places g x l (h g x l p); short = short }
 
 -- what acceptance gives the writer
 module _ {job : Job} {b : ℕ} {places cards racking : List ℕ} (o : OpenCards job b places cards racking) where

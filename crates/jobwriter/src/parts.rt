@@ -1,12 +1,12 @@
 // What the writer puts together: numbers counted, then put one behind another into the lent buffer, then the card bytes.
-ghost use Rattle.std.specs.Prelude.{◌≡◌, ◌+◌, ◌≤◌, ◌<◌, length, get_or};
+ghost use Rattle.std.specs.Prelude.{◌≡◌, List, ℕ, ◌+◌, ◌≤◌, ◌<◌, length, get_or};
 ghost use Rattle.std.proofs.lemmas.List.Edits.{sets};
 ghost use Rattle.counting.specs.Lists.{each};
 ghost use Rattle.racks.specs.Limits.{BYTES, SLOTS};
 ghost use Rattle.racks.specs.Job.{racks_of, Sound, SoundSpared};
 ghost use Rattle.answers.specs.Answers.{size_answered, sized_of};
 ghost use Rattle.jobwriter.specs.Writing.{numeral_of, numerals_of, file_entry, cap_of, file_numbers, file_for};
-ghost use Rattle.jobwriter.specs.parts.Puts.{Short, Put, Roomy, Writable, filed_by};
+ghost use Rattle.jobwriter.specs.parts.Puts.{Short, Put, Roomy, Gives, Writable, filed_by};
 
 use answers::Refusal;
 use racks::Job;
@@ -41,52 +41,28 @@ fn cap_at(job: &Job, p: usize) -> u16
     job.spares[p] - racks::parts::first_slot(&job.ends, p)
 }
 
-// The m_p of a job; the position behind them.
-fn put_caps(job: Job, out: &mut [u8], at: usize) -> usize
-    requires { Sound job × Roomy (each cap_of (racks_of job)) at out.old }
-    ensures { Put (numerals_of (each cap_of (racks_of job))) out.old at out.new result }
+// n numbers, each by its place, put one behind another; the position behind them.
+fn put_numbers<F: Fn(usize) -> u16>(out: &mut [u8], at: usize, n: usize, number: F) -> usize
+    requires { (xs : List ℕ) × Gives (F.pre number) (F.post number) n xs × Roomy xs at out.old }
+    ensures { (xs : List ℕ) → Gives (F.pre number) (F.post number) n xs → Put (numerals_of xs) out.old at out.new result }
 {
     let mut next = at;
-    for p in 0..job.racks {
-        next = put_number(out, next, cap_at(&job, p));
+    for i in 0..n {
+        next = put_number(out, next, number(i));
     }
     next
 }
 
-// The entries; the position behind them.
-fn put_entries(out: &mut [u8], at: usize, places: &[u16]) -> usize
-    requires { Short (each file_entry places.now) × Roomy (each file_entry places.now) at out.old }
-    ensures { Put (numerals_of (each file_entry places.now)) out.old at out.new result }
-{
-    let mut next = at;
-    for x in places {
-        next = put_number(out, next, file_entry(*x));
-    }
-    next
-}
-
-// How many bytes the m_p of a job are in the file: one each, and one more for each of two groups.
-fn caps_size(job: Job) -> usize
-    requires { Sound job }
-    ensures { result ≡ length (numerals_of (each cap_of (racks_of job))) }
+// How many bytes such numbers are in the file: one each, and one more for each of two groups.
+fn count_bytes<F: Fn(usize) -> u16>(n: usize, number: F) -> usize
+    requires { (xs : List ℕ) × Gives (F.pre number) (F.post number) n xs × (n ≤ SLOTS) }
+    ensures { (xs : List ℕ) → Gives (F.pre number) (F.post number) n xs → result ≡ length (numerals_of xs) }
 {
     let mut more: u16 = 0;
-    for p in 0..job.racks {
-        more += u16::from(128 <= cap_at(&job, p));
+    for i in 0..n {
+        more += u16::from(128 <= number(i));
     }
-    job.racks + more as usize
-}
-
-// How many bytes the entries are.
-fn entries_size(places: &[u16]) -> usize
-    requires { Short (each file_entry places.now) × (length places.now ≤ SLOTS) }
-    ensures { result ≡ length (numerals_of (each file_entry places.now)) }
-{
-    let mut more: u16 = 0;
-    for x in places {
-        more += u16::from(128 <= file_entry(*x));
-    }
-    places.len() + more as usize
+    n + more as usize
 }
 
 // How many bytes all numbers of the file are: N has one group.
@@ -95,7 +71,9 @@ fn numbers_size(job: Job, b: usize, places: &[u16]) -> usize
     ensures { result ≡ length (numerals_of (file_numbers (racks_of job) b places.now)) }
 {
     let more = usize::from(128 <= b);
-    2 + more + caps_size(job) + entries_size(places)
+    let caps = count_bytes(job.racks, |p| cap_at(&job, p));
+    let entries = count_bytes(places.len(), |g| file_entry(places[g]));
+    2 + more + caps + entries
 }
 
 // The file, from the front of a buffer that has room for it. There are card bytes, which are put over what the last number left behind it.
@@ -105,8 +83,8 @@ fn put_file(job: Job, b: usize, places: &[u16], cards: &[u8], out: &mut [u8])
 {
     let mut next = put_number(out, 0, job.racks as u16);
     next = put_number(out, next, b as u16);
-    next = put_caps(job, out, next);
-    next = put_entries(out, next, places);
+    next = put_numbers(out, next, job.racks, |p| cap_at(&job, p));
+    next = put_numbers(out, next, places.len(), |g| file_entry(places[g]));
     racks::parts::put(out, next, cards);
 }
 

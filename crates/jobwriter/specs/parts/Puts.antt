@@ -26,6 +26,13 @@ pub record Put (bytes before : List ℕ) (at : ℕ) (after : List ℕ) (r : ℕ)
 abbrev pub Roomy : List ℕ → ℕ → List ℕ → Type 0
 Roomy xs at out = at + length (numerals_of xs) + 1 ≤ length out
 
+-- what a closure gives at the places below n are the numbers of a list, of at most two groups; it may be called there
+pub record Gives (pre : ℕ → Type 0) (post : ℕ → ℕ → Type 0) (n : ℕ) (xs : List ℕ) : Type 0 where
+  pub as_many : n ≡ length xs
+  pub called : (i : ℕ) → i < n → pre i
+  pub given : (i x : ℕ) → i < n → post i x → x ≡ get_or xs i 0
+  pub short : Short xs
+
 -- what acceptance gives the writer: numbers of at most two groups
 pub record Writable (job : Job) (b : ℕ) (places : List ℕ) : Type 0 where
   pub sound : Sound job
