@@ -7,8 +7,8 @@ use std::io;
 use std::io::Write;
 
 fn say_budget<W: Write>(out: &mut W, name: &str, lent: &mut Lent, k: usize) -> io::Result<()> {
-    let answer = budgets::budgeted_moves(lent.caps, lent.b, lent.places, lent.cards, k);
-    lent.say_left(out, name, answer)
+    let given = budgets::budgeted_moves(lent.caps, lent.b, lent.places, lent.cards, k);
+    lent.say_left(out, name, given)
 }
 
 // Case 2 with k 0, then 4, then the largest k, then with nothing left.

@@ -2,14 +2,13 @@
 #![tactic(auto)]
 
 use racks::Job;
-use saying::parts::say_answer;
+use saying::parts::say_uncounted;
 use slots::{Kind, State};
 use std::io;
 use std::io::Write;
 
 fn say_check<W: Write>(out: &mut W, name: &str, caps: &[u16], places: &[u16]) -> io::Result<()> {
-    let answer = tables::check_table(caps, places);
-    say_answer(out, name, answer)?;
+    say_uncounted(out, name, &tables::check_table(caps, places))?;
     writeln!(out)
 }
 
@@ -17,7 +16,6 @@ fn say_kind<W: Write>(out: &mut W, kind: Kind) -> io::Result<()> {
     match kind {
         Kind::User => write!(out, " user slot"),
         Kind::Spare => write!(out, " spare"),
-        Kind::None => write!(out, " none"),
     }
 }
 
@@ -27,7 +25,6 @@ fn say_state<W: Write>(out: &mut W, state: State) -> io::Result<()> {
         State::Settled => writeln!(out, " settled"),
         State::Unsettled => writeln!(out, " unsettled"),
         State::Away(p) => writeln!(out, " away to {p}"),
-        State::None => writeln!(out, " none"),
     }
 }
 
@@ -38,10 +35,13 @@ fn say_slot<W: Write>(
     places: &[u16],
     g: usize,
 ) -> io::Result<()> {
-    let a = slots::slot_question(caps, places, g);
-    say_answer(out, name, a.answer)?;
-    say_kind(out, a.slot.kind)?;
-    say_state(out, a.slot.state)
+    let given = slots::slot_question(caps, places, g);
+    say_uncounted(out, name, &given)?;
+    let Ok(slot) = given else {
+        return writeln!(out, " none none");
+    };
+    say_kind(out, slot.kind)?;
+    say_state(out, slot.state)
 }
 
 fn full_house<W: Write>(out: &mut W) -> io::Result<()> {

@@ -13,8 +13,8 @@ fn say_move<W: Write>(
     from: usize,
     to: usize,
 ) -> io::Result<()> {
-    let answer = mover::one_move(lent.caps, lent.b, lent.places, lent.cards, from, to);
-    lent.say_left(out, name, answer)
+    let given = mover::one_move(lent.caps, lent.b, lent.places, lent.cards, from, to);
+    lent.say_left(out, name, given)
 }
 
 // Two racks of one, each card a byte.

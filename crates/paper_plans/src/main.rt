@@ -13,8 +13,8 @@ fn say_plan<W: Write>(
     places: &[u16],
     lent: &mut [u16],
 ) -> io::Result<()> {
-    let answer = planner::phase_plan(caps, places, lent);
-    say_answer(out, name, answer)?;
+    let given = planner::phase_plan(caps, places, lent);
+    say_answer(out, name, given)?;
     say_numbers(out, "pairs", lent)?;
     writeln!(out)
 }

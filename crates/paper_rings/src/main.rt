@@ -15,8 +15,8 @@ mod say;
 // Runs a job that was dealt, and says the answer and how many slots were wrong before and after.
 fn finish<W: Write>(out: &mut W, name: &str, deal: Deal, job: &mut Lent) -> io::Result<()> {
     let before = check::wrong_slots(deal, job);
-    let answer = runner::whole_run(job.caps, job.b, job.places, job.cards);
-    saying::parts::say_answer(out, name, answer)?;
+    let given = runner::whole_run(job.caps, job.b, job.places, job.cards);
+    saying::parts::say_answer(out, name, given)?;
     let after = check::wrong_slots(deal, job);
     say::say_wrong(out, before, after)
 }

@@ -12,19 +12,19 @@ fn say_copies<W: Write>(
     places: &[u16],
     lent: &mut [u16],
 ) -> io::Result<()> {
-    let answer = copies::copy_list(caps, places, lent);
-    saying::parts::say_answer(out, name, answer)?;
+    let given = copies::copy_list(caps, places, lent);
+    saying::parts::say_answer(out, name, given)?;
     say::say_steps(out, lent)
 }
 
 fn say_shuffle<W: Write>(out: &mut W, name: &str, lent: &mut Lent) -> io::Result<()> {
-    let answer = shuffler::shuffle_cards(lent.caps, lent.b, lent.places, lent.cards);
-    lent.say_outcome(out, name, answer)
+    let given = shuffler::shuffle_cards(lent.caps, lent.b, lent.places, lent.cards);
+    lent.say_outcome(out, name, given)
 }
 
 fn say_run<W: Write>(out: &mut W, name: &str, lent: &mut Lent) -> io::Result<()> {
-    let answer = runner::whole_run(lent.caps, lent.b, lent.places, lent.cards);
-    lent.say_outcome(out, name, answer)
+    let given = runner::whole_run(lent.caps, lent.b, lent.places, lent.cards);
+    lent.say_outcome(out, name, given)
 }
 
 // The copy list of case 3, and those after the phases of cases 1, 4 and 5.

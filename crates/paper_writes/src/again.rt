@@ -6,15 +6,20 @@ use racks::Job;
 // Whether a job, written, gives the bytes of a file.
 fn written_same(file: &[u8], job: Given) -> bool {
     let mut out = [0u8; 12289];
-    let found = job.write(&mut out);
-    found.size <= out.len() && &out[..found.size] == file
+    match job.write(&mut out) {
+        Ok(size) => size <= out.len() && &out[..size] == file,
+        Err(_) => false,
+    }
 }
 
 // Whether what a file gives is the job that was written, and gives the bytes of the file again.
 pub fn same(file: &[u8], job: Given) -> bool {
     let mut caps = [7u16; Job::MAX_RACKS];
     let mut places = [7u16; Job::MAX_SLOTS];
-    let found = jobfile::read_file(file, &mut caps, &mut places);
+    let given = jobfile::read_file(file, &mut caps, &mut places);
+    let Ok(found) = given else {
+        return false;
+    };
     if caps.len() < found.racks || places.len() < found.slots {
         return false;
     }
@@ -22,7 +27,7 @@ pub fn same(file: &[u8], job: Given) -> bool {
         caps: &caps[..found.racks],
         b: found.bytes,
         places: &places[..found.slots],
-        cards: jobfile::card_bytes(file, found),
+        cards: jobfile::card_bytes(file, given),
     };
     read.caps == job.caps
         && read.places == job.places

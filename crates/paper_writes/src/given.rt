@@ -1,5 +1,5 @@
 // What the writer is given.
-use answers::SizeAnswer;
+use answers::Refusal;
 
 // A job: its capacities, the bytes of a card, the table and the cards.
 #[derive(Clone, Copy)]
@@ -20,7 +20,7 @@ impl<'a> Given<'a> {
         }
     }
 
-    pub fn write(self, out: &mut [u8]) -> SizeAnswer {
+    pub fn write(self, out: &mut [u8]) -> Result<usize, Refusal> {
         jobwriter::write_file(self.caps, self.b, self.places, self.cards, out)
     }
 }

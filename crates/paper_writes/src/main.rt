@@ -11,11 +11,11 @@ mod deal;
 mod given;
 mod say;
 
-// Writes a job, and says the answer and the length.
+// Writes a job, and says the answer and the length, which is 0 where it is refused.
 fn write<W: Write>(to: &mut W, name: &str, job: Given, out: &mut [u8]) -> io::Result<usize> {
-    let found = job.write(out);
-    say::say_size(to, name, found)?;
-    Ok(found.size)
+    let given = job.write(out);
+    say::say_size(to, name, given)?;
+    Ok(given.unwrap_or(0))
 }
 
 // Says whether the file comes out the same once more; a refusal has no file.

@@ -1,13 +1,16 @@
 // What a line of a case says.
-use answers::SizeAnswer;
+use answers::Refusal;
 use std::io;
 use std::io::Write;
 
 // The number, the counts and the length.
-pub fn say_size<W: Write>(to: &mut W, name: &str, found: SizeAnswer) -> io::Result<()> {
-    saying::parts::say_answer(to, name, found.answer)?;
-    let size = found.size;
-    write!(to, " length {size}")
+pub fn say_size<W: Write>(
+    to: &mut W,
+    name: &str,
+    given: Result<usize, Refusal>,
+) -> io::Result<()> {
+    saying::parts::say_uncounted(to, name, &given)?;
+    write!(to, " length {}", given.unwrap_or(0))
 }
 
 // The bytes of a buffer.

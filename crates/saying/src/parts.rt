@@ -1,11 +1,16 @@
 // What a line of a case says: the answer, numbers, bytes.
-use answers::{Answer, Tally};
+use answers::{Answer, Refusal, Tally};
 use racks::Job;
 use std::io;
 use std::io::Write;
 
 // A name, the number given, its place, and the counts of phases, moves and copies.
-pub fn say_answer<W: Write>(out: &mut W, name: &str, answer: Answer) -> io::Result<()> {
+pub fn say_answer<W: Write>(
+    out: &mut W,
+    name: &str,
+    given: Result<Tally, Refusal>,
+) -> io::Result<()> {
+    let answer = Answer::of(given);
     let Tally {
         phases,
         moves,
@@ -16,6 +21,18 @@ pub fn say_answer<W: Write>(out: &mut W, name: &str, answer: Answer) -> io::Resu
         out,
         "{name}: {number} place {place} counts {phases} {moves} {copies}"
     )
+}
+
+// The same of a call that counts nothing.
+pub fn say_uncounted<W: Write, T>(
+    out: &mut W,
+    name: &str,
+    given: &Result<T, Refusal>,
+) -> io::Result<()> {
+    match given {
+        Ok(_) => say_answer(out, name, Ok(Tally::none())),
+        Err(refusal) => say_answer(out, name, Err(*refusal)),
+    }
 }
 
 // A number of a list: `F` for a free slot, `h` for the hand.
@@ -62,16 +79,26 @@ pub struct Lent<'a> {
 
 impl<'a> Lent<'a> {
     // What a call with these gives, and leaves in them.
-    pub fn say_outcome<W: Write>(&self, out: &mut W, name: &str, answer: Answer) -> io::Result<()> {
-        say_answer(out, name, answer)?;
+    pub fn say_outcome<W: Write>(
+        &self,
+        out: &mut W,
+        name: &str,
+        given: Result<Tally, Refusal>,
+    ) -> io::Result<()> {
+        say_answer(out, name, given)?;
         say_numbers(out, "places", self.places)?;
         say_cards(out, self.cards)?;
         writeln!(out)
     }
 
     // The same, with the first eight bytes of the cards in decimal.
-    pub fn say_left<W: Write>(&self, out: &mut W, name: &str, answer: Answer) -> io::Result<()> {
-        say_answer(out, name, answer)?;
+    pub fn say_left<W: Write>(
+        &self,
+        out: &mut W,
+        name: &str,
+        given: Result<Tally, Refusal>,
+    ) -> io::Result<()> {
+        say_answer(out, name, given)?;
         say_numbers(out, "places", self.places)?;
         write!(out, " cards")?;
         for x in self.cards.iter().take(8) {
