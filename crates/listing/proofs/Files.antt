@@ -5,30 +5,31 @@ use Prim.Native.Nat.{ℕ, ◌≤◌, ◌<◌}
 use native.Mathlib.Omega.{arith}
 use native.Mathlib.Decide.{ℕ_discrete}
 use lib.Dec.{ltb}
-use lib.ListN.{length, take, length-drop}
+use lib.ListN.{length, take, drop, length-drop}
 use lib.Seq.{sets, length-sets}
 use borrow.Author.Tests.{lt-ltb, le-ltb, ltb-false, ne_eqb}
 use Rattle.counting.specs.Checks.{first}
 use Rattle.counting.proofs.Checks.{first-here, first-later, first_off, first-none}
-use Rattle.racks.specs.Racks.{of_caps, slots}
+use Rattle.racks.specs.Racks.{of_caps}
 use Rattle.racks.specs.Numbers.{card_checks, too_short}
-use Rattle.answers.specs.Answers.{placeless, answer, no_counts, Sized, sized_of}
+use Rattle.std.specs.Prelude.{Ok, Err}
+use Rattle.answers.specs.Answers.{refusal_of, placeless, answer, no_counts, SizeAnswer, Sized, sized_of}
+use Rattle.answers.specs.declared.Refusal as given
+use Rattle.answers.proofs.Answers.{refuses}
 use Rattle.racks.proofs.LegalTable.{spared-caps}
 use Rattle.moves.specs.Moves.{held}
 use Rattle.counting.proofs.Stores.{take-front}
 use Rattle.tables.proofs.Tables.{cards_pass}
 use Rattle.parsing.specs.File.{read_m, read_entries, file_racks, file_bytes, file_places, file_cards, file_checks}
-use Rattle.jobfile.specs.Answers.{cards_of}
-use Rattle.parsing.specs.Answers.{done_file}
+use Rattle.parsing.specs.Answers.{FileAnswer, done_file, file_answered}
 use Rattle.parsing.specs.parts.Parsing.{Parsed}
-use Rattle.parsing.specs.declared.FileAnswer.{FileAnswer}
+use Rattle.parsing.specs.declared.FileJob.{FileJob}
 use Rattle.parsing.proofs.Legal.{file-legal, file-small}
 use Rattle.parsing.proofs.Files.{answer-number}
 use Rattle.texts.specs.Lines.{refused_line}
 use Rattle.runtexts.specs.RunText.{FILE, run_text}
 use Rattle.listing.specs.Listing.{ENOUGH, program_checks, file_held, listing, handed_over, printed}
 use Rattle.texts.specs.parts.Writing.{Reaches}
-use Rattle.answers.specs.declared.SizeAnswer.{SizeAnswer}
 use Rattle.texts.proofs.Lines.{refused-small}
 use Rattle.listing.proofs.Refusals.{number_most}
 use Rattle.listing.proofs.Enough.{run-enough}
@@ -97,43 +98,40 @@ module _ (file : List ℕ) where
       (rw (size, buffer) (take-front lent (listing file) (length (listing file)) refl fits), omega (arith, size, ap length buffer, length-sets lent 0 (listing file)))
 
   -- what the reader gives
-  module _ (small : length file ≤ FILE) {found : FileAnswer} {caps places : List ℕ} (p : Parsed file found caps places) where
-    number_is : found.answer.number ≡ first (file_checks file)
-    number_is = ap (λ (x : FileAnswer). x.answer.number) p.is ∙ answer-number file (first (file_checks file))
-
+  module _ (small : length file ≤ FILE) {caps places : List ℕ} where
     -- a refusal
-    pub listing-refused : (found.answer.number ≡ 0 → ⊥) → listing file ≡ refused_line found.answer.number
-    listing-refused f = by_refusal found.answer.number (passed small ∙ sym number_is) f
+    pub listing-refused : (e : given.Refusal) → Parsed file (Err e) caps places → listing file ≡ refused_line (refusal_of e).number
+    listing-refused e p =
+        by_refusal (refusal_of e).number (passed small ∙ sym (ap (λ (x : FileAnswer). x.answer.number) p.is ∙ answer-number file (first (file_checks file)))) (refuses e)
 
     -- a legal job
-    module _ (z : found.answer.number ≡ 0) where
+    module _ {found : FileJob} (p : Parsed file (Ok found) caps places) where
       no_check : first (file_checks file) ≡ 0
-      no_check = sym number_is ∙ z
+      no_check = sym (ap (λ (x : FileAnswer). x.answer.number) p.is ∙ answer-number file (first (file_checks file)))
 
-      done-is : found ≡ done_file file
+      done-is : file_answered (Ok found) ≡ done_file file
       done-is = p.is ∙ rw no_check
 
       caps-are : of_caps (take found.racks caps) ≡ file_racks file
       unfolding file_racks
-      caps-are = ap of_caps (p.caps-are z)
+      caps-are = ap of_caps p.caps-are
 
       bytes-are : found.bytes ≡ file_bytes file
       bytes-are = ap (λ (x : FileAnswer). x.bytes) done-is
 
-      cards-are : cards_of found file ≡ file_cards file
-      unfolding cards_of file_cards
-      cards-are = rw (z, ap (λ (x : FileAnswer). x.start) done-is)
+      cards-are : drop found.start file ≡ file_cards file
+      unfolding file_cards
+      cards-are = ap (λ (x : FileAnswer). drop x.start file) done-is
 
       -- which passes 1 to 6
-      pub job-legal : first (card_checks (of_caps (take found.racks caps)) found.bytes (take found.slots places) (cards_of found file)) ≡ 0
-      job-legal = rw (cards-are, caps-are, bytes-are, p.places-are z) (file-legal file no_check)
+      pub job-legal : first (card_checks (of_caps (take found.racks caps)) found.bytes (take found.slots places) (drop found.start file)) ≡ 0
+      job-legal = rw (cards-are, caps-are, bytes-are, p.places-are) (file-legal file no_check)
 
       -- with no more card bytes than the file has
-      pub job-small : length (cards_of found file) ≤ FILE
-      unfolding file_cards
-      job-small = omega (arith, ap length cards-are, length-drop (read_entries file).next file)
+      pub job-small : length (drop found.start file) ≤ FILE
+      job-small = omega (arith, length-drop found.start file)
 
       -- whose run is the text
-      pub listing-run : listing file ≡ run_text (of_caps (take found.racks caps)) found.bytes (held (take found.slots places) (cards_of found file))
+      pub listing-run : listing file ≡ run_text (of_caps (take found.racks caps)) found.bytes (held (take found.slots places) (drop found.start file))
       unfolding file_held
-      listing-run = rw (cards-are, caps-are, bytes-are, p.places-are z) (by-run (passed small ∙ no_check))
+      listing-run = rw (cards-are, caps-are, bytes-are, p.places-are) (by-run (passed small ∙ no_check))

@@ -3,7 +3,7 @@ use mathlib.Core.List.{List}
 use Prim.Native.Nat.{ℕ}
 use Rattle.counting.specs.One.{One}
 use Rattle.counting.proofs.One.{one-is}
-use Rattle.answers.specs.declared.SizeAnswer.{SizeAnswer}
+use Rattle.answers.specs.Answers.{SizeAnswer}
 use Rattle.answers.proofs.One.{sized-one}
 use Rattle.listing.specs.Listing.{ListJob}
 

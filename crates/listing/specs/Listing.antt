@@ -3,8 +3,7 @@ use Rattle.std.specs.Prelude.{List, [], ◌∷◌, ◌≡◌, ℕ, ltb, length}
 use Rattle.counting.specs.Tests.{pick}
 use Rattle.counting.specs.Checks.{Check, first, done}
 use Rattle.racks.specs.Numbers.{too_short}
-use Rattle.answers.specs.Answers.{placeless, Sized, sized, sized_of}
-use Rattle.answers.specs.declared.SizeAnswer.{SizeAnswer}
+use Rattle.answers.specs.Answers.{placeless, SizeAnswer, Sized, sized, sized_of}
 use Rattle.moves.specs.Moves.{Held}
 use Rattle.parsing.specs.File.{file_racks, file_bytes, file_places, file_cards, file_checks}
 use Rattle.texts.specs.Lines.{refused_line}

@@ -68,7 +68,7 @@ pub fn put_job(out: &mut [u8], caps: &[u16], b: usize, places: &mut [u16], bytes
 {
     let mut cards = [0u8; texts::FILE];
     let size = words::put_text(&mut cards, 0, bytes);
-    let job = Job::of(caps);
+    let job = racks::parts::job_of(caps);
     let mut racking = [0u8; Job::MAX_SLOTS];
     tables::parts::fill_racking(job, &mut racking);
     put_run(out, job, b, places, &mut cards[..size], &mut racking)

@@ -2,11 +2,14 @@ use mathlib.Core.Path.{refl, ap, ◌∙◌}
 use native.Mathlib.Omega.{arith}
 use lib.ListN.{length}
 use Rattle.runtexts.proofs.Writing.{wrote-front}
-use Rattle.runtexts.proofs.Jobs.{job-sound, job-spared, job-racks, job_open}
+use Rattle.runtexts.proofs.Jobs.{job-good, job-sound, job-spared, job-racks, job_open}
 use Rattle.runtexts.proofs.parts.jobs.put_job.Goals as goal
 
+pub job_of-job-requires : goal.job_of-job-requires
+job_of-job-requires c = job-good c.args.caps.now c.args.b c.args.places.now c.args.bytes.now c.requires.0
+
 pub fill_racking-requires : goal.fill_racking-requires
-fill_racking-requires c = (job-sound c.args.caps.now _ c.of-job.ensures c.args.b c.args.places.now c.args.bytes.now c.requires.0, refl)
+fill_racking-requires c = (job-sound c.args.caps.now c.args.b c.args.places.now c.args.bytes.now c.requires.0 _ c.job_of-job.ensures, refl)
 
 pub slice_bounds-put_run-end : goal.slice_bounds-put_run-end
 slice_bounds-put_run-end c =
@@ -15,16 +18,16 @@ slice_bounds-put_run-end c =
 
 pub put_run-requires : goal.put_run-requires
 put_run-requires c =
-    let o = job_open c.args.caps.now _ c.of-job.ensures c.args.b c.args.places.now c.args.bytes.now c.requires.0 _ c.fill_racking.ensures in
+    let o = job_open c.args.caps.now c.args.b c.args.places.now c.args.bytes.now c.requires.0 _ c.job_of-job.ensures _ c.fill_racking.ensures in
     let f = wrote-front c.put_text-size.ensures refl (omega (arith, c.requires.1)) in (
       o.table,
-      job-spared c.args.caps.now _ c.of-job.ensures c.args.b c.args.places.now c.args.bytes.now c.requires.0,
+      job-spared c.args.caps.now c.args.b c.args.places.now c.args.bytes.now c.requires.0 _ c.job_of-job.ensures,
       ap length f ∙ o.long,
       o.bytes,
-      rw (job-racks c.args.caps.now _ c.of-job.ensures c.args.b c.args.places.now c.args.bytes.now c.requires.0, f) c.requires.2,
+      rw (job-racks c.args.caps.now c.args.b c.args.places.now c.args.bytes.now c.requires.0 _ c.job_of-job.ensures, f) c.requires.2,
     )
 
 pub returns : goal.returns
 returns c =
     let f = wrote-front c.put_text-size.ensures refl (omega (arith, c.requires.1)) in
-    rw (job-racks c.args.caps.now _ c.of-job.ensures c.args.b c.args.places.now c.args.bytes.now c.requires.0, f) at c.put_run.ensures
+    rw (job-racks c.args.caps.now c.args.b c.args.places.now c.args.bytes.now c.requires.0 _ c.job_of-job.ensures, f) at c.put_run.ensures
