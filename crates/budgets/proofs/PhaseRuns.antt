@@ -1,7 +1,7 @@
 -- A phase run with an allowance, from the phase planned; and its moves noted one by one. Assumes nothing.
 use mathlib.Core.Path.{◌≡◌, refl, ap, ◌∙◌}
-use mathlib.Core.List.{List, ◌∷◌}
-use Prim.Native.Nat.{ℕ, ◌+◌, ◌*◌, ◌/◌, ◌-◌, ◌≤◌, ◌<◌, min}
+use mathlib.Core.List.{List, [], ◌∷◌}
+use Prim.Native.Nat.{ℕ, ◌+◌, ◌*◌, ◌-◌, ◌≤◌, ◌<◌, min}
 use native.Mathlib.Omega.{arith}
 use native.Mathlib.Decide.{ℕ_discrete}
 use lib.ListN.{length, get_or, set, take, drop, length-take}
@@ -22,7 +22,7 @@ use Rattle.queues.specs.parts.Queued.{one_more}
 use Rattle.queues.proofs.Opens.{open-few}
 use Rattle.moves.specs.Moves.{Held}
 use Rattle.carrying.specs.parts.Carrying.{unflat, AllSlots, Carried}
-use Rattle.carrying.proofs.Flat.{pairs_from, from-more, from-none, pairs_of, pairs-part}
+use Rattle.carrying.proofs.Flat.{pairs_of, pairs-part}
 use Rattle.budgets.specs.parts.Engine.{note, noted, note_line, noted_line, Notable, AllNotable, MoveNoted, Noted, Runnable, PhaseRun}
 use Rattle.budgets.proofs.Shows.{note-long, note_else, note-here}
 
@@ -37,11 +37,11 @@ pub move-noted : (racking : List ℕ) (m : Pair) (line bits words bits' : List �
 unfolding note note_line one_more
 move-noted racking m line bits words bits' e q = record { line-is = refl; bits_are = q ∙ rw e }
 
--- the moves left of a list's can be noted, and end as all of them do
-pub record Noting (list : List ℕ) (i : ℕ) (racking line bits line' bits' : List ℕ) : Type 0 where
-  pub notable : AllNotable racking (pairs_from list i) line bits
-  pub line-ends : noted_line racking (pairs_from list i) line ≡ line'
-  pub bits-end : noted (pairs_from list i) bits ≡ bits'
+-- the moves left can be noted, and end as all of them do
+pub record Noting (racking : List ℕ) (ms : List Pair) (line bits line' bits' : List ℕ) : Type 0 where
+  pub notable : AllNotable racking ms line bits
+  pub line-ends : noted_line racking ms line ≡ line'
+  pub bits-end : noted ms bits ≡ bits'
 
 -- the first of moves that can be noted, and those behind it
 first : {P : Pair → Type 0} {m : Pair} {ms : List Pair} → All P (m ∷ ms) → P m
@@ -50,46 +50,36 @@ first (more h r) = h
 rest : {P : Pair → Type 0} {m : Pair} {ms : List Pair} → All P (m ∷ ms) → All P ms
 rest (more h r) = r
 
-module _ (list : List ℕ) (i : ℕ) {racking line bits line' bits' : List ℕ} (s : Noting list i racking line bits line' bits') where
-  abbrev m : Pair
-  m = (get_or list (2 * i) 0, get_or list (2 * i + 1) 0)
-
-  module _ (l : i < length list / 2) where
-    split : AllNotable racking (m ∷ pairs_from list (i + 1)) line bits
-    split = rw (from-more list i l) at s.notable
-
+module _ {racking line bits line' bits' : List ℕ} where
+  module _ {m : Pair} {ms : List Pair} (s : Noting racking (m ∷ ms) line bits line' bits') where
     -- the first of those left can be noted
     pub noting-first : Notable racking m
-    noting-first = first split.moves
+    noting-first = first s.notable.moves
 
     pub noting-room : room_of line (get_or racking m.0 0) < 65535
-    noting-room = omega (arith, split.counts-fit (get_or racking m.0 0) noting-first.racked)
+    noting-room = omega (arith, s.notable.counts-fit (get_or racking m.0 0) noting-first.racked)
 
     -- and then those after it
-    pub noting-more : {line₂ bits₂ : List ℕ} → MoveNoted racking m line bits line₂ bits₂ → Noting list (i + 1) racking line₂ bits₂ line' bits'
+    pub noting-more : {line₂ bits₂ : List ℕ} → MoveNoted racking m line bits line₂ bits₂ → Noting racking ms line₂ bits₂ line' bits'
     unfolding noted noted_line
     noting-more {line₂} {bits₂} n = rw (n.line-is, n.bits_are) (record {
       notable = record {
-        moves = rest split.moves;
+        moves = rest s.notable.moves;
         counts-fit = λ p h. elim (ℕ_discrete p (get_or racking m.0 0)) [
-          | yes e ↦ rw e (omega (arith, note-here racking m line noting-first.racked s.notable.line-long, split.counts-fit (get_or racking m.0 0) noting-first.racked))
-          | no d ↦ omega (arith, note_else racking m line noting-first.racked (4288 + p) (λ q. d (omega arith)), split.counts-fit p h)
+          | yes e ↦ rw e (omega (arith, note-here racking m line noting-first.racked s.notable.line-long, s.notable.counts-fit (get_or racking m.0 0) noting-first.racked))
+          | no d ↦ omega (arith, note_else racking m line noting-first.racked (4288 + p) (λ q. d (omega arith)), s.notable.counts-fit p h)
         ];
         line-long = note-long racking m line noting-first.racked ∙ s.notable.line-long;
         bits-long = length-note m bits ∙ s.notable.bits-long;
       };
-      line-ends = rw (from-more list i l) at s.line-ends;
-      bits-end = rw (from-more list i l) at s.bits-end;
+      line-ends = s.line-ends;
+      bits-end = s.bits-end;
     })
 
   -- none is left
-  pub noting_line : length list / 2 ≤ i → line ≡ line'
-  unfolding noted_line
-  noting_line l = rw (from-none list i l) at s.line-ends
-
-  pub noting-bits : length list / 2 ≤ i → bits ≡ bits'
-  unfolding noted
-  noting-bits l = rw (from-none list i l) at s.bits-end
+  pub noting-done : Noting racking [] line bits line' bits' → (line ≡ line') × (bits ≡ bits')
+  unfolding noted noted_line
+  noting-done s = (s.line-ends, s.bits-end)
 
 module _ (ends : List ℕ) (b k : ℕ) (t : Tally) (h : Held) (racking line bits log line₁ bits₁ log' : List ℕ) (planned made : ℕ) (w : Runnable ends b k t h racking line bits log)
     (p : PhasePlanned ends line bits log (2 * t.moves) line₁ bits₁ log' planned) (e : made ≡ min planned (k - t.moves)) where

@@ -44,10 +44,8 @@ pub fn note_moves(
     requires { AllNotable racking.now (unflat pairs.now) line.old bits.old }
     ensures { Noted racking.now (unflat pairs.now) line.old bits.old line.new bits.new }
 {
-    for i in 0..pairs.len() / 2 {
-        let from = pairs[2 * i] as usize;
-        let to = pairs[2 * i + 1] as usize;
-        note_move(from, to, racking, line, bits);
+    for pair in pairs.chunks_exact(2) {
+        note_move(pair[0] as usize, pair[1] as usize, racking, line, bits);
     }
 }
 
@@ -93,7 +91,7 @@ pub fn run_moves(
     ensures { Made (racks_of job) b k (held places.old cards.old) (held places.new cards.new) result }
 {
     let mut tally = Tally::none();
-    // Kept: no counted loop, since each phase makes as many moves as it has pairs.
+    // Kept: a `for` would be no plainer, since it is not known how many moves a phase makes.
     while tally.moves < k && bits[line::WAITING] != 0 {
         tally = run_phase(
             &job.ends, b, k, tally, places, cards, racking, line, bits, log,

@@ -1,7 +1,7 @@
 -- Laws of carrying: one card moved, and the moves of a list, one after another. Assumes nothing.
-use mathlib.Core.Path.{◌≡◌, ap}
+use mathlib.Core.Path.{◌≡◌}
 use mathlib.Core.List.{List, [], ◌∷◌}
-use Prim.Native.Nat.{ℕ, ◌+◌, ◌*◌, ◌/◌, ◌≤◌, ◌<◌}
+use Prim.Native.Nat.{ℕ, ◌+◌, ◌<◌}
 use native.Mathlib.Nat.{add-zero}
 use native.Mathlib.Omega.{arith}
 use lib.ListN.{length, get_or, set}
@@ -12,7 +12,6 @@ use Rattle.answers.specs.Answers.{plus_move, plus_moves}
 use Rattle.answers.specs.declared.Tally.{Tally}
 use Rattle.moves.specs.Blocks.{block, put_block, blank}
 use Rattle.moves.specs.Moves.{moved_places, moved_cards, carried_places, carried_cards, Held, carried, held}
-use Rattle.carrying.proofs.Flat.{pairs_from, from-more, from-none}
 
 -- one card moved: its entry, then its bytes copied, then its old slot blanked
 pub moved-held : (b f t : ℕ) (places cards copied blanked : List ℕ) → f < length places → copied ≡ put_block b t (block b f cards) cards → blanked ≡ put_block b f (blank b) copied
@@ -20,34 +19,21 @@ pub moved-held : (b f t : ℕ) (places cards copied blanked : List ℕ) → f < 
 unfolding carried_places carried_cards moved_places moved_cards
 moved-held b f t places cards copied blanked l p q = rw (q, p, read-dest places f l)
 
-module _ (list : List ℕ) (i : ℕ) where
-  -- the first of the moves left is made: those after it give the same
-  pub carry-more : (b : ℕ) (h h' end : Held) → i < length list / 2 → h' ≡ carried b ((get_or list (2 * i) 0, get_or list (2 * i + 1) 0) ∷ []) h
-      → carried b (pairs_from list i) h ≡ end → carried b (pairs_from list (i + 1)) h' ≡ end
+-- some moves are left: once they are made, the cards lie and the counts are as they do and are after all
+pub record Carrying (b : ℕ) (ms : List Pair) (h end : Held) (t all : Tally) : Type 0 where
+  pub held-ends : carried b ms h ≡ end
+  pub tally-ends : plus_moves (length ms) t ≡ all
+
+module _ {b : ℕ} {h end : Held} {t all : Tally} where
+  -- the first of them is made
+  pub carrying-more : {m : Pair} {ms : List Pair} {h' : Held} {t' : Tally} → Carrying b (m ∷ ms) h end t all → h' ≡ carried b (m ∷ []) h → t' ≡ plus_move t
+      → Carrying b ms h' end t' all
   unfolding carried_places carried_cards
-  carry-more b h h' end l e rest = rw e (rw (from-more list i l) at rest)
+  carrying-more {m} {ms} {h'} {t'} s eh et =
+      let n : t.moves + 1 + length ms ≡ t.moves + length (m ∷ ms) = omega arith in
+      record { held-ends = rw eh s.held-ends; tally-ends = rw (et, n) s.tally-ends }
 
   -- none is left
-  pub carry-done : (b : ℕ) (h end : Held) → length list / 2 ≤ i → carried b (pairs_from list i) h ≡ end → h ≡ end
+  pub carrying-done : Carrying b [] h end t all → (h ≡ end) × (t ≡ all)
   unfolding carried_places carried_cards
-  carry-done b h end l rest = rw (from-none list i l) at rest
-
--- the tally has room for the moves left, and with them is what it is with all
-pub record Tallying (list : List ℕ) (i : ℕ) (t end : Tally) : Type 0 where
-  pub counts-fit : t.moves + length list < 18446744073709551615 + 2 * i
-  pub ends : plus_moves (length (pairs_from list i)) t ≡ end
-
-module _ (list : List ℕ) (i : ℕ) {t end : Tally} (s : Tallying list i t end) where
-  -- one move more is counted
-  pub tallying-more : (t' : Tally) → i < length list / 2 → t' ≡ plus_move t → Tallying list (i + 1) t' end
-  tallying-more t' l e =
-      let m : Pair = (get_or list (2 * i) 0, get_or list (2 * i + 1) 0) in
-      let n : t.moves + 1 + length (pairs_from list (i + 1)) ≡ t.moves + length (m ∷ pairs_from list (i + 1)) = omega arith in
-      record {
-        counts-fit = omega (arith, ap (λ (x : Tally). x.moves) e, s.counts-fit);
-        ends = rw (e, n) (rw (from-more list i l) at s.ends);
-      }
-
-  -- all are counted
-  pub tallying-done : length list / 2 ≤ i → t ≡ end
-  tallying-done l = simp add-zero at (rw (from-none list i l) at s.ends)
+  carrying-done s = (s.held-ends, simp add-zero at s.tally-ends)

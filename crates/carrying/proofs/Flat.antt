@@ -1,19 +1,19 @@
 -- Laws of the moves that stand in a list of numbers. Assumes nothing.
 use mathlib.Core.Path.{◌≡◌, refl, ap, sym, ◌∙◌}
 use mathlib.Core.List.{List, [], ◌∷◌, ◌++◌, append_assoc}
-use Prim.Native.Nat.{ℕ, zero, suc, ◌+◌, ◌*◌, ◌-◌, ◌/◌, ◌≤◌, ◌<◌}
+use Prim.Native.Nat.{ℕ, zero, suc, ◌+◌, ◌*◌, ◌-◌, ◌≤◌, ◌<◌}
 use native.Mathlib.Nat.{zero-add, suc-add}
 use native.Mathlib.Numerals.{add-one, add-two}
 use native.Mathlib.Omega.{arith}
-use lib.ListN.{length, take, drop, get_or, length-drop, take-append-drop}
-use lib.Seq.{sets, drop-cons, slice, slice-cons, length-slice, take-nil, take_all, take-append_seam, drop-append_seam}
+use lib.ListN.{length, take, drop, get_or, take-append-drop}
+use lib.Seq.{sets, slice, slice-cons, length-slice, take-nil, take_all, take-append_seam, drop-append_seam}
 use Rattle.counting.specs.Lists.{Pair, flat}
 use Rattle.counting.specs.Every.All.{more}
 use Rattle.carrying.specs.parts.Carrying.{unflat, pairs_in, Slots, AllSlots}
 use Rattle.counting.proofs.Stores.{length-flat, flat_append, run-same}
 
 -- fewer than two numbers are no pair
-unflat-few : (l : List ℕ) → length l < 2 → unflat l ≡ []
+pub unflat-few : (l : List ℕ) → length l < 2 → unflat l ≡ []
 unfolding unflat
 unflat-few [] k = refl
 unflat-few (x ∷ []) k = refl
@@ -30,35 +30,21 @@ module _ (list : List ℕ) (i high : ℕ) (fits : high ≤ length list) where
   unfolding pairs_in
   pairs-none h = unflat-few (slice i high list) (omega (arith, length-slice i high list fits))
 
--- the pairs of a list from the i-th on
-abbrev pub pairs_from : List ℕ → ℕ → List Pair
-pairs_from list i = unflat (drop (2 * i) list)
+-- two numbers and those behind them: the first pair, and the pairs behind it
+pub unflat-more : (left pair left' : List ℕ) → left ≡ pair ++ left' → length pair ≡ 2 → unflat left ≡ (get_or pair 0 0, get_or pair 1 0) ∷ unflat left'
+unfolding unflat
+unflat-more left (f ∷ (t ∷ [])) left' e n = rw e
+unflat-more left [] left' e n = absurd (omega arith)
+unflat-more left (f ∷ []) left' e n = absurd (omega arith)
+unflat-more left (f ∷ (t ∷ (x ∷ l))) left' e n = absurd (omega arith)
 
-module _ (list : List ℕ) (i : ℕ) where
-  -- the first of them, and those after it
-  pub from-more : i < length list / 2 → pairs_from list i ≡ (get_or list (2 * i) 0, get_or list (2 * i + 1) 0) ∷ pairs_from list (i + 1)
-  unfolding unflat
-  from-more h =
-      let e : 2 * (i + 1) ≡ suc (suc (2 * i)) = omega arith in
-      rw (e, add-one, drop-cons list (2 * i) 0 (omega arith), drop-cons list (suc (2 * i)) 0 (omega arith))
+-- where the ends of some moves are slots, so are the first move's
+pub slots-first : {n : ℕ} {m : Pair} {ms : List Pair} → AllSlots n (m ∷ ms) → Slots n m
+slots-first (more p r) = p
 
-  -- none is left
-  pub from-none : length list / 2 ≤ i → pairs_from list i ≡ []
-  from-none h = unflat-few (drop (2 * i) list) (simp length-drop (omega arith))
-
-  -- where all ends are slots, so are the first pair's
-  pub slots-first : (n : ℕ) → i < length list / 2 → AllSlots n (pairs_from list i) → Slots n (get_or list (2 * i) 0, get_or list (2 * i + 1) 0)
-  slots-first n h all = head (rw (from-more h) at all)
-    where
-      head : {m : Pair} {ms : List Pair} → AllSlots n (m ∷ ms) → Slots n m
-      head (more p r) = p
-
-  -- and those of the pairs after it
-  pub slots-rest : (n : ℕ) → i < length list / 2 → AllSlots n (pairs_from list i) → AllSlots n (pairs_from list (i + 1))
-  slots-rest n h all = tail (rw (from-more h) at all)
-    where
-      tail : {m : Pair} {ms : List Pair} → AllSlots n (m ∷ ms) → AllSlots n ms
-      tail (more p r) = r
+-- and those of the moves behind it
+pub slots-rest : {n : ℕ} {m : Pair} {ms : List Pair} → AllSlots n (m ∷ ms) → AllSlots n ms
+slots-rest (more p r) = r
 
 -- the first pairs of a list of moves, from the first numbers of it
 unflat-take : (k : ℕ) (ms : List Pair) → unflat (take (k + k) (flat ms)) ≡ take k ms

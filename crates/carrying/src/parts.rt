@@ -46,10 +46,8 @@ pub fn carry(pairs: &[u16], places: &mut [u16], cards: &mut [u8], b: usize, tall
     ensures { Carried b (unflat pairs.now) (held places.old cards.old) tally (held places.new cards.new) result }
 {
     let mut made = tally;
-    for i in 0..pairs.len() / 2 {
-        let from = pairs[2 * i] as usize;
-        let to = pairs[2 * i + 1] as usize;
-        move_card(places, cards, b, from, to);
+    for pair in pairs.chunks_exact(2) {
+        move_card(places, cards, b, pair[0] as usize, pair[1] as usize);
         made = made.add_move();
     }
     made

@@ -64,8 +64,8 @@ pub fn pay_moves(
     requires payable { Payable racking.now (unflat pairs.now) owes.old × Payable racking.now (unflat pairs.now) awaits.old }
     ensures { Paid racking.now (unflat pairs.now) owes.old awaits.old owes.new awaits.new }
 {
-    for i in 0..pairs.len() / 2 {
-        let k = cell_of(racking, pairs[2 * i], pairs[2 * i + 1]);
+    for pair in pairs.chunks_exact(2) {
+        let k = cell_of(racking, pair[0], pair[1]);
         owes[k] -= 1;
         awaits[k] -= 1;
     }

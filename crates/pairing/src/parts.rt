@@ -81,7 +81,7 @@ pub fn plan_phase(
     let mut waiting = bits[line::WAITING];
     let mut left = waiting;
     let mut p = bits::parts::next_on(left, 0);
-    // Kept: no counted loop but a walk over the bits that are on; a `for` over all racks would need a test in each turn, and be no plainer.
+    // Kept: a walk over the bits that are on; a `for` over all racks would be no plainer, with a test in each turn.
     while p < 64 {
         let made = visit(ends, line, p, bits, log, at + 2 * count);
         if line[line::TAILS + p] <= line[line::HEADS + p] {

@@ -72,7 +72,7 @@ pub fn run_phases(
     let cells = job.racks * Job::MAX_RACKS;
     let mut tally = Tally::none();
     let mut cell = owed::parts::next_awaited(awaits, 0, cells);
-    // Kept: no counted loop, since the cursor stays at a cell until nothing is awaited there, and then jumps to the next.
+    // Kept: a `for` over the cells would be no plainer, since the cursor stays at a cell until nothing is awaited there.
     while cell < cells {
         let made = budgets::parts::run_phase(
             &job.ends,
