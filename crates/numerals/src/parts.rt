@@ -56,10 +56,7 @@ pub fn bounded_numeral(
     ensures place { IfErr result (λ e. (refusal_of e).place ≡ place_with (refusal_of refusal) (refusal_of e).number) }
 {
     let got = next_numeral(file, at)?;
-    if got.value < low {
-        return Err(refusal);
-    }
-    if high < got.value {
+    if got.value < low || high < got.value {
         return Err(refusal);
     }
     Ok(got)

@@ -2,6 +2,7 @@
 use Rattle.std.proofs.lemmas.Result.{err_from_is_err_and}
 use Rattle.jobfile.proofs.Files.{read-file-refused, read-17-caps, read-17-places, read_done}
 use Rattle.jobfile.proofs.read_file.Goals as goal
+use Rattle.jobfile.proofs.read_file.Goals.{then-caps-found-via-then-caps-found, then-caps-found-via-else-caps-found+then-places-found}
 
 pub returns-in_err-found : goal.returns-in_err-found
 returns-in_err-found c =
@@ -9,12 +10,11 @@ returns-in_err-found c =
     rw (p.1, p.2) (read-file-refused c.args.file.now c.args.caps.now c.args.places.now _ _ _ c.in_err-found.ensures)
 
 pub returns-then-caps-found : goal.returns-then-caps-found
-returns-then-caps-found c =
-    read-17-caps c.args.file.now c.args.caps.now c.args.places.now _ _ _ c.in_ok-found.ensures c.if-caps-found.true
-
-pub returns-then-places-found : goal.returns-then-places-found
-returns-then-places-found c =
-    read-17-places c.args.file.now c.args.caps.now c.args.places.now _ _ _ c.in_ok-found.ensures c.if-places-found.true
+returns-then-caps-found c = elim c.then-caps-found.branch [
+  | then-caps-found-via-then-caps-found w ↦ read-17-caps c.args.file.now c.args.caps.now c.args.places.now _ _ _ c.in_ok-found.ensures w.if-caps-found.true
+  | then-caps-found-via-else-caps-found+then-places-found w ↦
+      read-17-places c.args.file.now c.args.caps.now c.args.places.now _ _ _ c.in_ok-found.ensures w.if-places-found.true
+]
 
 pub returns : goal.returns
 returns c =
