@@ -32,7 +32,7 @@ use Rattle.parsing.specs.File.{read_n, read_m, file_racks, file_bytes, file_plac
 use Rattle.parsing.proofs.Legal.{file-legal}
 use Rattle.jobfile.specs.Reading.{ahead, JobRead}
 use Rattle.jobfile.specs.declared.Reader.{Reader}
-use Rattle.jobfile.specs.declared.JobFile.{JobFile}
+use Rattle.jobfile.specs.Reading.{JobFile}
 use Rattle.texts.specs.Lines.{refused_line, phase_line, phase_lines, copies_line}
 use Rattle.texts.proofs.Spelling.{refused-one}
 use Rattle.runtexts.specs.RunText.{run_text}

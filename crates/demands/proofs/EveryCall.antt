@@ -10,7 +10,7 @@ use Rattle.answers.specs.declared.Answer.{Answer}
 use Rattle.moves.specs.Moves.{Held, held}
 use Rattle.jobfile.specs.Reading.{ahead, JobRead}
 use Rattle.jobfile.specs.declared.Reader.{Reader}
-use Rattle.jobfile.specs.declared.JobFile.{JobFile}
+use Rattle.jobfile.specs.Reading.{JobFile}
 use Rattle.conduct.specs.Accepted.{Accepted}
 use Rattle.demands.specs.Rows.{None}
 use Rattle.demands.specs.Conditions.{table_rows, card_rows}
@@ -43,7 +43,7 @@ module _ (racks : List Rack) (b : ℕ) (h : Held) (z : first (card_checks racks 
 
 -- a job that a reader reads is that of the file ahead of it
 job-accepted : (reader : Reader) (caps places : List ℕ) (job : JobFile) (caps' places' : List ℕ) → JobRead reader caps places job caps' places'
-    → job.answer.number ≡ 0 → Accepted (take job.racks caps') job.bytes (held (take job.slots places') job.cards.now)
+    → job.answer.number ≡ 0 → Accepted (take job.racks caps') job.bytes (held (take job.slots places') job.cards)
 job-accepted reader caps places job caps' places' r z =
     rw (r.racks-are, r.bytes-are, r.slots-are, r.cards-are, r.caps-are, r.places-are)
     (demand1.read-accepted (ahead reader) caps places (sym (ap (λ (a : Answer). a.number) r.answer-is) ∙ z))

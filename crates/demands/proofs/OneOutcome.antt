@@ -5,8 +5,8 @@ use Prim.Native.Nat.{ℕ}
 use Rattle.counting.specs.One.{One}
 use Rattle.counting.proofs.One.{one-is, one_by}
 use Rattle.answers.specs.declared.Answer.{Answer}
-use Rattle.answers.proofs.One.{tally-none-one, tally_of-moves-one, tally_of-copies-one, refusal_of-one, answer-refused-one, answer_of-one, answer-done-one}
-use Rattle.racks.proofs.One.{job_of-one}
+use Rattle.answers.proofs.One.{tally-none-one, tally_of-moves-one, tally_of-copies-one, number_of-one, place_of-one, answer-refused-one, answer-done-one, answer-given-one}
+use Rattle.racks.proofs.One.{job_of-one, job_of_cards-one}
 use Rattle.tables.proofs.One.{check-table-one}
 use Rattle.slots.proofs.One.{slot_question-one}
 use Rattle.plans.proofs.One.{phase-plan-one}
@@ -14,7 +14,7 @@ use Rattle.moves.proofs.One.{one-move-one, budgeted-moves-one}
 use Rattle.factors.proofs.One.{copy-list-one}
 use Rattle.shuffle.proofs.One.{shuffle-cards-one}
 use Rattle.runs.proofs.One.{whole-run-one}
-use Rattle.parsing.specs.declared.FileAnswer.{FileAnswer}
+use Rattle.parsing.specs.Answers.{FileAnswer}
 use Rattle.jobfile.proofs.One.{read-file-one, rest_of-one, card-bytes-one, step-at-one, new-one, next_one, read_job-one}
 use Rattle.answers.specs.Answers.{SizeAnswer}
 use Rattle.jobwriter.proofs.One.{write-file-one}
@@ -96,12 +96,14 @@ one-outcome =
       next = next_one;
       read_job = read_job-one;
       job_of = job_of-one;
+      job_of_cards = job_of_cards-one;
       tally-none = tally-none-one;
       tally_of-moves = tally_of-moves-one;
       tally_of-copies = tally_of-copies-one;
-      refusal_of = refusal_of-one;
+      number_of = number_of-one;
+      place_of = place_of-one;
       answer-refused = answer-refused-one;
-      answer_of_lem = answer_of-one;
+      answer_of_lem = answer-given-one;
       answer-done = answer-done-one;
       c_check-table = λ caps places. c-same (check-table-one caps places);
       c-slot_question = λ caps places g. one-is _;

@@ -18,11 +18,14 @@ use Rattle.parsing.specs.File.{Read, refusal_at, file_refusal, read_checks, read
 use Rattle.numerals.specs.Numeral.{Got, numeral}
 use Rattle.numerals.specs.Numeral.{got_of}
 use Rattle.numerals.specs.declared.Numeral.{Numeral}
-use Rattle.numerals.specs.declared.Numeral.TheVariants.{Value, Refused}
+use Rattle.std.specs.Prelude.{Result, Ok, Err}
+use Rattle.answers.specs.Answers.{placeless, refused}
+use Rattle.answers.specs.declared.Refusal as given
+use Rattle.jobfile.proofs.One.{form-bare}
 use Rattle.jobfile.specs.Reading.{at_after, Stepped, Next, ahead, JobRead}
 use Rattle.jobfile.specs.declared.Reader.{Reader}
 use Rattle.jobfile.specs.declared.Step.{Step}
-use Rattle.jobfile.specs.declared.JobFile.{JobFile}
+use Rattle.jobfile.specs.Reading.{JobFile}
 use Rattle.jobwriter.specs.Writing.{filed}
 use Rattle.listing.specs.Listing.{handed_over, printed}
 use Rattle.jobfile.specs.Reading.{job_seen}
@@ -50,20 +53,21 @@ refused_job reader caps places job caps' places' r f =
     λ i. (e0 i, e1 i, e2 i, e3 i, e4 i, e5 i, e6 i, e7 i)
 
 -- a numeral that is refused says so, and the position stays
-refused-numeral : (x : Numeral) (got : Got) (at n : ℕ) → got_of x ≡ got → n ≢ 0 → got.number ≡ n → (x ≡ Refused n) × (at_after x at ≡ at)
+refused-numeral : (file : List ℕ) (x : Result Numeral given.Refusal) (at n : ℕ) → got_of x ≡ numeral file at → n ≢ 0 → (numeral file at).number ≡ n
+    → (refused x ≡ placeless n) × (at_after x at ≡ at)
 unfolding got_of at_after
-refused-numeral (Value v p) got at n e f z = absurd (f (sym z ∙ sym (ap (λ (g : Got). g.number) e)))
-refused-numeral (Refused m) got at n e f z = (ap Refused (ap (λ (g : Got). g.number) e ∙ z), refl)
+refused-numeral file (Ok x) at n e f z = absurd (f (sym z ∙ sym (ap (λ (g : Got). g.number) e)))
+refused-numeral file (Err r) at n e f z = (form-bare file at r e ∙ ap placeless (ap (λ (g : Got). g.number) e ∙ z), refl)
 
-refused-step : (file : List ℕ) (at n : ℕ) (step : Step) → Stepped file at step → n ≢ 0 → (numeral file at).number ≡ n → (step.numeral ≡ Refused n) × (step.at ≡ at)
+refused-step : (file : List ℕ) (at n : ℕ) (step : Step) → Stepped file at step → n ≢ 0 → (numeral file at).number ≡ n → (refused step.numeral ≡ placeless n) × (step.at ≡ at)
 refused-step file at n step s f z =
-    let r = refused-numeral step.numeral (numeral file at) at n s.got-is f z in
+    let r = refused-numeral file step.numeral at n s.got-is f z in
     (r.0, s.at-is ∙ r.1)
 
-refused-next : (before after : Reader) (x : Numeral) (n : ℕ) → Next before x after → n ≢ 0 → (numeral before.file.now before.at).number ≡ n
-    → (x ≡ Refused n) × (after.file ≡ before.file) × (after.at ≡ before.at)
+refused-next : (before after : Reader) (x : Result Numeral given.Refusal) (n : ℕ) → Next before x after → n ≢ 0 → (numeral before.file.now before.at).number ≡ n
+    → (refused x ≡ placeless n) × (after.file ≡ before.file) × (after.at ≡ before.at)
 refused-next before after x n s f z =
-    let r = refused-numeral x (numeral before.file.now before.at) before.at n s.got-is f z in
+    let r = refused-numeral before.file.now x before.at n s.got-is f z in
     (r.0, s.file-is, s.at-is ∙ r.1)
 
 pub refusals : Refusals

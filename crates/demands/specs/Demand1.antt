@@ -1,13 +1,15 @@
 -- Demand 1: a call gives number n exactly when the rules' condition n holds and no earlier one of the call's list does, and 0 exactly when none holds;
 -- 5 comes with the lowest bad entry, 6 with the lowest entry that repeats an earlier one, every other number with the place 0;
 -- a refusal changes nothing lent and gives 0 for all else. Assumes nothing: these are statements; `demand1` in proofs/Demand1 and `refusals` in proofs/Refusals prove them.
-use Rattle.std.specs.Prelude.{◌≡◌, ◌≢◌, ◌↔◌, true, List, [], ◌∷◌, ℕ, suc, ◌+◌, ◌≤◌, ◌<◌, length, get_or, take}
+use Rattle.std.specs.Prelude.{◌≡◌, ◌≢◌, ◌↔◌, true, List, [], ◌∷◌, ℕ, suc, ◌+◌, ◌≤◌, ◌<◌, length, get_or, take, Result}
 use Rattle.counting.specs.Lists.{flat}
 use Rattle.racks.specs.Racks.{Rack, of_caps, users, total, base, slots, rack_of, is_user}
-use Rattle.answers.specs.Answers.{no_counts}
+use Rattle.answers.specs.Answers.{no_counts, placeless, refused}
+use Rattle.answers.specs.declared.Refusal as given
 use Rattle.answers.specs.declared.Answer.{Answer}
 use Rattle.tables.specs.Check.{checked}
-use Rattle.slots.specs.Slots.{nothing, asked}
+use Rattle.slots.specs.Told.{nothing}
+use Rattle.slots.specs.Slots.{asked}
 use Rattle.plans.specs.Plan.{plan, planned}
 use Rattle.moves.specs.Moves.{Held, held, moved}
 use Rattle.moves.specs.Phases.{budgeted}
@@ -17,11 +19,10 @@ use Rattle.runs.specs.Run.{ran}
 use Rattle.numerals.specs.Numeral.{numeral}
 use Rattle.parsing.specs.File.{file_racks, file_bytes, read}
 use Rattle.numerals.specs.declared.Numeral.{Numeral}
-use Rattle.numerals.specs.declared.Numeral.TheVariants.{Refused}
 use Rattle.jobfile.specs.Reading.{Stepped, Next, ahead, JobRead}
 use Rattle.jobfile.specs.declared.Reader.{Reader}
 use Rattle.jobfile.specs.declared.Step.{Step}
-use Rattle.jobfile.specs.declared.JobFile.{JobFile}
+use Rattle.jobfile.specs.Reading.{JobFile}
 use Rattle.jobwriter.specs.Writing.{file_for, filed}
 use Rattle.texts.specs.Lines.{refused_line}
 use Rattle.runtexts.specs.RunText.{run_text}
@@ -114,8 +115,8 @@ pub record Refusals : Type 0 where
   pub read_job : (reader : Reader) (caps places : List ℕ) (job : JobFile) (caps' places' : List ℕ) → JobRead reader caps places job caps' places' → job.answer.number ≢ 0
       → job_seen (job, caps', places') ≡ (refused_as job.answer, 0, 0, 0, 0, [], caps, places)
   -- a numeral that is refused leaves the position where it was
-  pub step-at : (file : List ℕ) (at n : ℕ) (step : Step) → Stepped file at step → n ≢ 0 → (numeral file at).number ≡ n → (step.numeral ≡ Refused n) × (step.at ≡ at)
-  pub next : (before after : Reader) (x : Numeral) (n : ℕ) → Next before x after → n ≢ 0 → (numeral before.file.now before.at).number ≡ n
-      → (x ≡ Refused n) × (after.file ≡ before.file) × (after.at ≡ before.at)
+  pub step-at : (file : List ℕ) (at n : ℕ) (step : Step) → Stepped file at step → n ≢ 0 → (numeral file at).number ≡ n → (refused step.numeral ≡ placeless n) × (step.at ≡ at)
+  pub next : (before after : Reader) (x : Result Numeral given.Refusal) (n : ℕ) → Next before x after → n ≢ 0 → (numeral before.file.now before.at).number ≡ n
+      → (refused x ≡ placeless n) × (after.file ≡ before.file) × (after.at ≡ before.at)
   pub list_job : (file lent : List ℕ) → (printed file lent).answer.number ≢ 0
       → printed file lent ≡ record { answer = refused_as (printed file lent).answer; size = 0; lent = lent }

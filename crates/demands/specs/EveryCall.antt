@@ -14,7 +14,7 @@ use Rattle.runs.specs.Run.{ran}
 use Rattle.parsing.specs.File.{read}
 use Rattle.jobfile.specs.Reading.{JobRead}
 use Rattle.jobfile.specs.declared.Reader.{Reader}
-use Rattle.jobfile.specs.declared.JobFile.{JobFile}
+use Rattle.jobfile.specs.Reading.{JobFile}
 use Rattle.jobwriter.specs.Writing.{file_for, filed}
 use Rattle.demands.specs.Rows.{Given}
 use Rattle.conduct.specs.Accepted.{OfAccepted}
@@ -42,4 +42,4 @@ pub record EveryCallTakes : Type 0 where
   pub from-file : (file caps places : List ℕ) → (read file caps places).answer.number ≡ 0
       → let r = read file caps places in EveryCall (of_caps (take r.racks r.caps)) r.bytes (held (take r.slots r.places) r.cards)
   pub from_reader : (reader : Reader) (caps places : List ℕ) (job : JobFile) (caps' places' : List ℕ) → JobRead reader caps places job caps' places'
-      → job.answer.number ≡ 0 → EveryCall (of_caps (take job.racks caps')) job.bytes (held (take job.slots places') job.cards.now)
+      → job.answer.number ≡ 0 → EveryCall (of_caps (take job.racks caps')) job.bytes (held (take job.slots places') job.cards)

@@ -1,12 +1,12 @@
 -- One outcome: any two outcomes that a public call's contract allows are equal. An outcome is what the call gives and every lent list and byte at exit;
 -- each line cites the contract by the name under which the call cites it. Assumes nothing: these are statements; `one-outcome` in proofs/OneOutcome proves them.
-use Rattle.std.specs.Prelude.{List, ℕ}
+use Rattle.std.specs.Prelude.{List, ℕ, Result}
 use Rattle.std.specs.Borrow.{Bor}
 use Rattle.counting.specs.One.{One, OneSeen}
-use Rattle.racks.specs.Job.{JobOf}
-use Rattle.answers.specs.Answers.{TallyNone, TallyOfMoves, TallyOfCopies, RefusalOf, AnswerRefused, AnswerOf, AnswerDone}
+use Rattle.racks.specs.Job.{JobOf, JobOfCards}
+use Rattle.answers.specs.Answers.{TallyNone, TallyOfMoves, TallyOfCopies, NumberOf, PlaceOf, AnswerRefused, AnswerDone, AnswerGiven}
 use Rattle.answers.specs.declared.Tally.{Tally}
-use Rattle.answers.specs.Answers.{Refusal}
+use Rattle.answers.specs.declared.Refusal as given
 use Rattle.answers.specs.declared.Answer.{Answer}
 use Rattle.tables.specs.Check.{CheckTable}
 use Rattle.slots.specs.Slots.{SlotQuestion}
@@ -18,10 +18,10 @@ use Rattle.shuffle.specs.Shuffle.{ShuffleCards}
 use Rattle.runs.specs.Run.{WholeRun}
 use Rattle.jobfile.specs.Answers.{ReadFile, RestOf, CardBytes}
 use Rattle.numerals.specs.declared.Numeral.{Numeral}
-use Rattle.parsing.specs.declared.FileAnswer.{FileAnswer}
+use Rattle.parsing.specs.Answers.{FileAnswer}
 use Rattle.jobfile.specs.Reading.{Stepped, New, Next, JobRead, job_seen}
 use Rattle.jobfile.specs.declared.Reader.{Reader}
-use Rattle.jobfile.specs.declared.JobFile.{JobFile}
+use Rattle.jobfile.specs.Reading.{JobFile}
 use Rattle.jobwriter.specs.Writing.{WriteFile}
 use Rattle.listing.specs.Listing.{ListJob}
 use Rattle.answers.specs.Answers.{SizeAnswer}
@@ -54,18 +54,20 @@ pub record OneOutcome : Type 0 where
   pub card-bytes : (file : List ℕ) (found : FileAnswer) → OneSeen (λ x. x.now) (λ (r : Bor (List ℕ)). CardBytes file found r.now)
   pub step-at : (file : List ℕ) (at : ℕ) → One (Stepped file at)
   pub new : (file : Bor (List ℕ)) → One (New file)
-  pub next : (reader : Reader) → One (λ ((n, reader') : Numeral × Reader). Next reader n reader')
+  pub next : (reader : Reader) → One (λ ((n, reader') : Result Numeral given.Refusal × Reader). Next reader n reader')
   pub read_job : (reader : Reader) (caps places : List ℕ)
       → OneSeen job_seen (λ ((job, caps', places') : JobFile × List ℕ × List ℕ). JobRead reader caps places job caps' places')
   -- the small ones: a job of capacities, counts, answers
   pub job_of : (caps : List ℕ) → One (JobOf caps)
+  pub job_of_cards : (caps : List ℕ) (b : ℕ) → One (JobOfCards caps b)
   pub tally-none : One TallyNone
   pub tally_of-moves : (moves : ℕ) → One (TallyOfMoves moves)
   pub tally_of-copies : (copies : ℕ) → One (TallyOfCopies copies)
-  pub refusal_of : (n : ℕ) → One (RefusalOf n)
-  pub answer-refused : (refusal : Refusal) → One (AnswerRefused refusal)
-  pub answer_of_lem : (n : ℕ) → One (AnswerOf n)
+  pub number_of : (refusal : given.Refusal) → One (NumberOf refusal)
+  pub place_of : (refusal : given.Refusal) → One (PlaceOf refusal)
+  pub answer-refused : (refusal : given.Refusal) → One (AnswerRefused refusal)
   pub answer-done : (tally : Tally) → One (AnswerDone tally)
+  pub answer_of_lem : (r : Result Tally given.Refusal) → One (AnswerGiven r)
   -- the calls from C: the same, of the numbers that C is given
   pub c_check-table : (caps places : List ℕ) → One (λ (r : c.Answer). CheckTable caps places (answer_of r))
   pub c-slot_question : (caps places : List ℕ) (g : ℕ) → One (SlotNumbers caps places g)

@@ -46,7 +46,7 @@ module _ (file : List ℕ) (at : ℕ) where
       omega (arith, next-some 3 file at 0 1 (sym (ap (λ (g : Got). g.number) a)), ap (λ (g : Got). g.next) b)
 
   -- a refusal has no place
-  form-bare : (e : given.Refusal) → refused (refusal_of e).number ≡ numeral file at → refusal_of e ≡ placeless (refusal_of e).number
+  pub form-bare : (e : given.Refusal) → refused (refusal_of e).number ≡ numeral file at → refusal_of e ≡ placeless (refusal_of e).number
   form-bare e is = bare-place e 15 (form-place file at e case.FileEnds is)
 
   one-numeral : (m n : Result Numeral given.Refusal) → got_of m ≡ numeral file at → got_of n ≡ numeral file at → m ≡ n
