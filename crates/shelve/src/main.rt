@@ -13,8 +13,10 @@ fn list_file(file: &[u8], out: &mut [u8]) -> usize
     ensures text { take result out.new ≡ listing file.now }
     ensures within { result ≤ length out.new }
 {
-    let listed = listing::list_job(file, out);
-    listed.size
+    match listing::list_job(file, out) {
+        Ok(size) => size,
+        Err(_) => 0,
+    }
 }
 
 // Lists the file.
