@@ -32,21 +32,24 @@ pub fn lay_card(cards: &mut [u8], hand: &[u8], b: usize, to: usize)
     racks::parts::put(cards, to * b, &hand[..b]);
 }
 
-// Copies are made among cards: the card of a slot goes to another too.
-struct Cards;
+// Copies are made among cards of b bytes: the card of a slot goes to another too.
+#[derive(Clone, Copy)]
+struct Cards {
+    b: usize,
+}
 
 impl Target for Cards {
     type Item = u8;
 
-    ghost step = { λ b at from to cards. put_block b to (block b from cards) cards };
+    ghost step = { λ target at from to cards. put_block target.b to (block target.b from cards) cards };
 
-    ghost ready = { λ slots b copies long. (b ≤ BYTES) × (long ≡ slots * b) };
+    ghost ready = { λ target slots copies long. (target.b ≤ BYTES) × (long ≡ slots * target.b) };
 
-    fn copy(cards: &mut [u8], b: usize, _at: usize, from: usize, to: u16) {
-        carrying::parts::copy_card(cards, b, from, to as usize);
+    fn copy(self, cards: &mut [u8], _at: usize, from: usize, to: u16) {
+        carrying::parts::copy_card(cards, self.b, from, to as usize);
     }
 
-    ghost fewer = { λ slots b m n long h r. r };
+    ghost fewer = { λ target slots m n long h r. r };
 }
 
 // The cards of a factor: along a shift, or by the hand; the tally with the copies made.
@@ -64,11 +67,11 @@ pub fn bring_walk(
     ensures { WalkBrought b places.now head left end cards.old hand.old tally result cards.new hand.new }
 {
     if end == Job::FREE {
-        return chains::make_chain::<Cards>(&places, cards, b, head, left, tally);
+        return chains::make_chain(Cards { b }, &places, cards, head, left, tally);
     }
     take_card(cards, hand, b, end as usize);
     let held = tally.add_copy();
-    let shifted = chains::make_chain::<Cards>(&places, cards, b, head, left, held);
+    let shifted = chains::make_chain(Cards { b }, &places, cards, head, left, held);
     lay_card(cards, hand, b, head);
     shifted.add_copy()
 }

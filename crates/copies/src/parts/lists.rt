@@ -85,20 +85,21 @@ pub fn put_copy(list: &mut [u16], at: usize, from: u16, to: u16)
 }
 
 // Copies are written into a list of numbers, two for each.
+#[derive(Clone, Copy)]
 struct Numbers;
 
 impl Target for Numbers {
     type Item = u16;
 
-    ghost step = { λ b at from to list. put_copies list at ((from, to) ∷ []) };
+    ghost step = { λ target at from to list. put_copies list at ((from, to) ∷ []) };
 
-    ghost ready = { λ slots b copies long. 2 * copies ≤ long };
+    ghost ready = { λ target slots copies long. 2 * copies ≤ long };
 
-    fn copy(list: &mut [u16], _b: usize, at: usize, from: usize, to: u16) {
+    fn copy(self, list: &mut [u16], at: usize, from: usize, to: u16) {
         put_copy(list, at, from as u16, to);
     }
 
-    ghost fewer = { λ slots b m n long h r. le_trans (mul-le-mul_left 2 h) r };
+    ghost fewer = { λ target slots m n long h r. le_trans (mul-le-mul_left 2 h) r };
 }
 
 // The copies of a factor: of a shift, or by the hand.
@@ -115,12 +116,12 @@ pub fn write_walk(
     ensures copies { list.new ≡ put_copies list.old tally.copies (walked places.now head left end) }
 {
     if end == Job::FREE {
-        return chains::make_chain::<Numbers>(&places, list, 0, head, left, tally);
+        return chains::make_chain(Numbers, &places, list, head, left, tally);
     }
     let first = tally.copies;
     put_copy(list, first, end, Job::HAND);
     let held = tally.add_copy();
-    let shifted = chains::make_chain::<Numbers>(&places, list, 0, head, left, held);
+    let shifted = chains::make_chain(Numbers, &places, list, head, left, held);
     let last = shifted.copies;
     put_copy(list, last, Job::HAND, head as u16);
     shifted.add_copy()
