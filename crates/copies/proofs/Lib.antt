@@ -4,3 +4,4 @@ pub mod Tallied
 pub mod Progress
 pub mod Copied
 pub mod Accepted
+pub mod Making

@@ -2,21 +2,21 @@
 use mathlib.Core.Path.{◌≡◌, refl, sym, ap, ◌∙◌}
 use mathlib.Core.Logic.{◌≢◌}
 use mathlib.Core.List.{List, [], ◌∷◌, ◌++◌}
-use Prim.Native.Nat.{ℕ, zero, suc, ◌+◌, ◌-◌, ◌*◌, ◌≤◌}
+use Prim.Native.Nat.{ℕ, ◌+◌, ◌*◌}
 use native.Mathlib.Omega.{arith}
 use native.Mathlib.Numerals.{add-one}
-use lib.ListN.{length, get_or, set}
+use lib.ListN.{length, set}
 use lib.Seq.{length-sets}
 use Rattle.counting.specs.Lists.{Pair, flat}
 use Rattle.racks.specs.Limits.{FREE, HAND}
 use Rattle.racks.specs.Table.{dest}
 use Rattle.factors.specs.Copies.{shift}
-use Rattle.factors.specs.parts.Walks.{steps, stepped, Inside, walked}
+use Rattle.factors.specs.parts.Walks.{steps, walked}
 use Rattle.copies.specs.parts.Writes.{put_copies}
+use Rattle.copies.specs.parts.Made.{made}
 use Rattle.counting.proofs.Stores.{length-flat, flat_append, sets-append}
 use Rattle.factors.proofs.Costs.{length_shift}
-use Rattle.factors.proofs.Walked.{length-steps, inside-step, walked-shift, walked-hand}
-use Rattle.factors.proofs.Stretches.{shift-cut}
+use Rattle.factors.proofs.Walked.{length-steps, walked-shift, walked-hand}
 
 module _ (list : List ℕ) (at : ℕ) where
   -- copies keep the length of the list
@@ -45,29 +45,14 @@ module _ (list : List ℕ) (at : ℕ) where
 pub put-long : (list after : List ℕ) (at : ℕ) (cs : List Pair) → after ≡ put_copies list at cs → length after ≡ length list
 put-long list after at cs e = ap length e ∙ length-put-copies list at cs
 
--- no slots follow: no copies
-pub shift_none : (list : List ℕ) (f : ℕ → ℕ) (at n x : ℕ) → n ≡ 0 → list ≡ put_copies list at (shift x (steps f n x))
-unfolding shift steps
-shift_none list f at n x e = rw e (sym (put-none list at))
+-- as they are made one after another
+made-put : (at : ℕ) (cs : List Pair) (list : List ℕ) → made (λ n from to l. put_copies l n ((from, to) ∷ [])) at cs list ≡ put_copies list at cs
+unfolding made
+made-put at [] list = sym (put-none list at)
+made-put at (c ∷ cs) list = made-put (at + 1) cs (put_copies list at (c ∷ [])) ∙ sym (put-append list at (c ∷ []) cs)
 
--- the copies of what follows, and then the copy from x to the slot after it
-pub shift-more : (places list l m : List ℕ) (at n x y e : ℕ) → Inside places n x → y ≡ get_or places x 0 → n ≢ 0 → e ≡ at + (n - 1)
-    → l ≡ put_copies list at (shift y (steps (dest places) (n - 1) y)) → m ≡ put_copies l e ((x, get_or places x 0) ∷ []) → m ≡ put_copies list at (shift x (steps (dest places) n x))
-unfolding shift steps
-shift-more places list l m at zero x y e h i q k p r = absurd (q refl)
-shift-more places list l m at (suc n) x y e h i q k p r =
-    let f : ℕ → ℕ = dest places in
-    let z : suc n - 1 ≡ n = omega arith in
-    let d : e ≡ at + length (shift y (steps f n y)) = omega (arith, length_shift y (steps f n y), length-steps f n y) in
-    r ∙ rw (p, z, ← i, d, ← inside-step places (suc n) x y h i) (sym (put-append list at (shift y (steps f n y)) ((x, y) ∷ [])))
-
--- the copies of the far part of a chain, and then those of the stretch before it
-pub shift-both : (f : ℕ → ℕ) (list l m : List ℕ) (at behind n s x y : ℕ) → s ≤ n → y ≡ stepped f s x → behind ≡ at + (n - s)
-    → l ≡ put_copies list at (shift y (steps f (n - s) y)) → m ≡ put_copies l behind (shift x (steps f s x)) → m ≡ put_copies list at (shift x (steps f n x))
-shift-both f list l m at behind n s x y h e k p r =
-    let far : List Pair = shift y (steps f (n - s) y) in
-    let d : behind ≡ at + length far = omega (arith, length_shift y (steps f (n - s) y), length-steps f (n - s) y) in
-    r ∙ rw (p, d, shift-cut f n s x y h e) (sym (put-append list at far (shift x (steps f s x))))
+pub put-made : (list l : List ℕ) (at : ℕ) (cs : List Pair) → l ≡ made (λ n from to l. put_copies l n ((from, to) ∷ [])) at cs list → l ≡ put_copies list at cs
+put-made list l at cs e = e ∙ made-put at cs list
 
 -- the copies of a factor, as they are walked
 module _ (places : List ℕ) (h n end : ℕ) where

@@ -12,6 +12,7 @@ use answers::{Refusal, Tally};
 use factors::parts::walks;
 use racks::Job;
 
+pub mod chains;
 pub mod lists;
 
 // Whether the card in slot g is away, by the racking. A free slot is on its own rack: so there is no branch, which could

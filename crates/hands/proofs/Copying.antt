@@ -2,7 +2,7 @@
 use mathlib.Core.Path.{◌≡◌, refl, sym, ap, ◌∙◌}
 use mathlib.Core.Logic.{◌≢◌}
 use mathlib.Core.List.{List, [], ◌∷◌, ◌++◌}
-use Prim.Native.Nat.{ℕ, zero, suc, ◌+◌, ◌-◌, ◌*◌, ◌≤◌, ◌<◌}
+use Prim.Native.Nat.{ℕ, zero, suc, ◌+◌, ◌*◌, ◌≤◌, ◌<◌}
 use native.Mathlib.Omega.{arith}
 use lib.ListN.{length, get_or, take, replicate}
 use Rattle.counting.specs.Lists.{Pair}
@@ -14,11 +14,11 @@ use Rattle.moves.specs.Blocks.{block, put_block, blank}
 use Rattle.moves.proofs.Blocks.{length-put, within}
 use Rattle.factors.specs.Copies.{shift, copies, copy_list}
 use Rattle.factors.specs.parts.Chains.{Chained}
-use Rattle.factors.specs.parts.Walks.{COUNTED, steps, stepped, Inside, Unmarked, Walked}
+use Rattle.factors.specs.parts.Walks.{COUNTED, steps, Inside, Unmarked, Walked}
+use Rattle.copies.specs.parts.Made.{made}
 use Rattle.copies.specs.parts.Writes.{due}
 use Rattle.copies.proofs.Tallied.{plus-shift, plus-hand}
-use Rattle.factors.proofs.Walked.{inside-here, inside-step, walked-shift, walked-hand}
-use Rattle.factors.proofs.Stretches.{shift-cut}
+use Rattle.factors.proofs.Walked.{inside-here, walked-shift, walked-hand}
 use Rattle.copies.proofs.Progress.{progress-end, Adding, adding-start, adding-end, adding-room, adding-more, few-copies, marked-none, added_none, added-due, due-copies}
 use Rattle.shuffle.specs.Shuffle.{Hands, taken, laid, run_copies, brought, copy_made}
 use Rattle.hands.specs.parts.Hands.{handed, slid, HandedAs, WalkBrought, SlotBrought, AllBrought}
@@ -73,29 +73,14 @@ slid-size b cs cards after e = ap length e ∙ length-slid b cs cards
 pub slid-within : (b n g : ℕ) (cs : List Pair) (cards after : List ℕ) → after ≡ slid b cs cards → length cards ≡ n * b → g < n → g * b + b ≤ length after
 slid-within b n g cs cards after e l h = within b n g after (slid-size b cs cards after e ∙ l) h
 
--- and one copy more keeps its length
-pub slid-long : (b y : ℕ) (cs : List Pair) (bytes cards l m : List ℕ) → l ≡ slid b cs cards → m ≡ put_block b y bytes l → length m ≡ length cards
-slid-long b y cs bytes cards l m e p = ap length p ∙ length-put b y bytes l ∙ slid-size b cs cards l e
+-- as the copies are made one after another
+made-slid : (b at : ℕ) (cs : List Pair) (cards : List ℕ) → made (λ n from to l. put_block b to (block b from l) l) at cs cards ≡ slid b cs cards
+unfolding made slid
+made-slid b at [] cards = refl
+made-slid b at (c ∷ cs) cards = made-slid b (at + 1) cs (put_block b c.1 (block b c.0 cards) cards)
 
--- the cards of a chain: none
-pub slid-none : (b n x : ℕ) (f : ℕ → ℕ) (cards : List ℕ) → n ≡ 0 → cards ≡ slid b (shift x (steps f n x)) cards
-unfolding shift steps slid
-slid-none b n x f cards e = rw e
-
--- those of the slots after x, and then x's
-pub slid-more : (b n x y : ℕ) (places cards l m : List ℕ) → Inside places n x → y ≡ get_or places x 0 → n ≢ 0 → l ≡ slid b (shift y (steps (dest places) (n - 1) y)) cards → m ≡ put_block b y (block b x l) l
-    → m ≡ slid b (shift x (steps (dest places) n x)) cards
-unfolding shift steps slid
-slid-more b zero x y places cards l m h e q p r = absurd (q refl)
-slid-more b (suc n) x y places cards l m h e q p r =
-    let z : suc n - 1 ≡ n = omega arith in
-    r ∙ rw (p, z, ← inside-step places (suc n) x y h e) (sym (slid-append b (shift y (steps (dest places) n y)) ((x, y) ∷ []) cards))
-
--- those of the far part of a chain, and then those of the stretch before it
-pub slid-cut : (f : ℕ → ℕ) (b n s x y : ℕ) (cards l m : List ℕ) → s ≤ n → y ≡ stepped f s x → l ≡ slid b (shift y (steps f (n - s) y)) cards → m ≡ slid b (shift x (steps f s x)) l
-    → m ≡ slid b (shift x (steps f n x)) cards
-slid-cut f b n s x y cards l m h e p r =
-    r ∙ rw (p, shift-cut f n s x y h e) (sym (slid-append b (shift y (steps f (n - s) y)) (shift x (steps f s x)) cards))
+pub slid-made : (b at : ℕ) (cs : List Pair) (cards l : List ℕ) → l ≡ made (λ n from to l. put_block b to (block b from l) l) at cs cards → l ≡ slid b cs cards
+slid-made b at cs cards l e = e ∙ made-slid b at cs cards
 
 -- a chain of slots is run without the hand
 pub run-chain : (b : ℕ) (places cards hand : List ℕ) (n x : ℕ) → Inside places n x → length places ≤ 4096

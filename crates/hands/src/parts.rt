@@ -1,16 +1,16 @@
 // Cards brought to the slots they are bound for: along a chain, and by the hand round a cycle.
 ghost use Rattle.std.specs.Prelude.{◌≡◌, ◌≢◌, ◌+◌, ◌*◌, ◌≤◌, ◌<◌, length, take};
-ghost use Rattle.answers.specs.Answers.{plus_copies};
 ghost use Rattle.racks.specs.Limits.{FREE, BYTES, COPIES, SLOTS};
-ghost use Rattle.racks.specs.Table.{dest};
 ghost use Rattle.moves.specs.Blocks.{block, put_block};
-ghost use Rattle.factors.specs.Copies.{shift, copies};
+ghost use Rattle.factors.specs.Copies.{copies};
 ghost use Rattle.factors.specs.parts.Chains.{Chained};
-ghost use Rattle.factors.specs.parts.Walks.{COUNTED, Sources, Unmarked, steps, Inside, walk_count};
+ghost use Rattle.factors.specs.parts.Walks.{COUNTED, Sources, Unmarked, Inside, walk_count};
 ghost use Rattle.copies.specs.parts.Writes.{due};
-ghost use Rattle.hands.specs.parts.Hands.{slid, WalkBrought, SlotBrought, AllBrought};
+ghost use Rattle.hands.specs.parts.Hands.{WalkBrought, SlotBrought, AllBrought};
 
 use answers::Tally;
+use chains::Target;
+use copies::parts::chains;
 use factors::parts::walks;
 use racks::Job;
 
@@ -32,48 +32,24 @@ pub fn lay_card(cards: &mut [u8], hand: &[u8], b: usize, to: usize)
     racks::parts::put(cards, to * b, &hand[..b]);
 }
 
-// The cards of the chain of slot x and the `left` slots after it, each to the next slot, the last card first; each copy is added to the tally
-// where it is made. The table is lent as a reference to a slice, which is one register for each level of the recursion.
-pub fn bring(
-    places: &&[u16],
-    cards: &mut [u8],
+// Copies are made among cards of b bytes: the card of a slot goes to another too.
+#[derive(Clone, Copy)]
+struct Cards {
     b: usize,
-    x: usize,
-    left: usize,
-    tally: Tally,
-) -> Tally
-    requires { Inside places.now.now left x × (length places.now.now ≤ SLOTS) × (b ≤ BYTES) × (length cards.old ≡ length places.now.now * b) × (tally.copies + left ≤ COPIES) }
-    ensures counts { result ≡ plus_copies left tally }
-    ensures cards { cards.new ≡ slid b (shift x (steps (dest places.now.now) left x)) cards.old }
-{
-    if left == 0 {
-        return tally;
-    }
-    let to = places[x] as usize;
-    let made = bring(places, cards, b, to, left - 1, tally);
-    carrying::parts::copy_card(cards, b, x, to);
-    made.add_copy()
 }
 
-// The cards of a chain of any length: where it is longer than a stretch the far part first, then the stretch from x on.
-pub fn bring_chain(
-    places: &&[u16],
-    cards: &mut [u8],
-    b: usize,
-    x: usize,
-    left: usize,
-    tally: Tally,
-) -> Tally
-    requires { Inside places.now.now left x × (length places.now.now ≤ SLOTS) × (b ≤ BYTES) × (length cards.old ≡ length places.now.now * b) × (tally.copies + left ≤ COPIES) }
-    ensures counts { result ≡ plus_copies left tally }
-    ensures cards { cards.new ≡ slid b (shift x (steps (dest places.now.now) left x)) cards.old }
-{
-    if left <= walks::STRETCH {
-        return bring(places, cards, b, x, left, tally);
+impl Target for Cards {
+    type Item = u8;
+
+    ghost step = { λ target at from to cards. put_block target.b to (block target.b from cards) cards };
+
+    ghost ready = { λ target slots copies long. (target.b ≤ BYTES) × (long ≡ slots * target.b) };
+
+    fn copy(self, cards: &mut [u8], _at: usize, from: usize, to: u16) {
+        carrying::parts::copy_card(cards, self.b, from, to as usize);
     }
-    let far = walks::slot_after(places, x, walks::STRETCH);
-    let made = bring_chain(places, cards, b, far, left - walks::STRETCH, tally);
-    bring(places, cards, b, x, walks::STRETCH, made)
+
+    ghost fewer = { λ target slots m n long h r. r };
 }
 
 // The cards of a factor: along a shift, or by the hand; the tally with the copies made.
@@ -91,11 +67,11 @@ pub fn bring_walk(
     ensures { WalkBrought b places.now head left end cards.old hand.old tally result cards.new hand.new }
 {
     if end == Job::FREE {
-        return bring_chain(&places, cards, b, head, left, tally);
+        return chains::make_chain(Cards { b }, &places, cards, head, left, tally);
     }
     take_card(cards, hand, b, end as usize);
     let held = tally.add_copy();
-    let shifted = bring_chain(&places, cards, b, head, left, held);
+    let shifted = chains::make_chain(Cards { b }, &places, cards, head, left, held);
     lay_card(cards, hand, b, head);
     shifted.add_copy()
 }

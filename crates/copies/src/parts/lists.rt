@@ -1,14 +1,16 @@
 // The copy list: its copies counted, and written into a lent list.
 ghost use Rattle.std.specs.Prelude.{◌≡◌, [], ◌∷◌, ◌+◌, ◌*◌, ◌≤◌, ◌<◌, length};
+ghost use Rattle.std.proofs.Math.Nat.{le_trans, mul-le-mul_left};
 ghost use Rattle.answers.specs.Answers.{plus_copies};
 ghost use Rattle.racks.specs.Limits.{COPIES, SLOTS};
-ghost use Rattle.racks.specs.Table.{dest};
-ghost use Rattle.factors.specs.Copies.{shift, copies, copy_list};
+ghost use Rattle.factors.specs.Copies.{copies, copy_list};
 ghost use Rattle.factors.specs.parts.Chains.{Chained};
-ghost use Rattle.factors.specs.parts.Walks.{COUNTED, LISTED, Sources, Unmarked, steps, Inside, walked, walk_count};
+ghost use Rattle.factors.specs.parts.Walks.{COUNTED, LISTED, Sources, Unmarked, Inside, walked, walk_count};
 ghost use Rattle.copies.specs.parts.Writes.{put_copies, due, Counted, CopiesWritten, AllWritten, fits};
 
+use crate::parts::chains;
 use answers::Tally;
+use chains::Target;
 use factors::parts::walks;
 use racks::Job;
 
@@ -82,35 +84,22 @@ pub fn put_copy(list: &mut [u16], at: usize, from: u16, to: u16)
     list[2 * at + 1] = to;
 }
 
-// The copies of the chain of slot x and the `left` slots after it, the last card first, behind those that the tally has; each is added to it
-// where it is written. The table is lent as a reference to a slice, which is one register for each level of the recursion.
-pub fn write_shift(places: &&[u16], list: &mut [u16], x: usize, left: usize, tally: Tally) -> Tally
-    requires { Inside places.now.now left x × (length places.now.now ≤ SLOTS) × (tally.copies + left ≤ COPIES) × (2 * (tally.copies + left) ≤ length list.old) }
-    ensures counts { result ≡ plus_copies left tally }
-    ensures copies { list.new ≡ put_copies list.old tally.copies (shift x (steps (dest places.now.now) left x)) }
-{
-    if left == 0 {
-        return tally;
-    }
-    let y = places[x];
-    let made = write_shift(places, list, y as usize, left - 1, tally);
-    let at = made.copies;
-    put_copy(list, at, x as u16, y);
-    made.add_copy()
-}
+// Copies are written into a list of numbers, two for each.
+#[derive(Clone, Copy)]
+struct Numbers;
 
-// The copies of a chain of any length: where it is longer than a stretch those of the far part first, then those of the stretch from x on.
-pub fn write_chain(places: &&[u16], list: &mut [u16], x: usize, left: usize, tally: Tally) -> Tally
-    requires { Inside places.now.now left x × (length places.now.now ≤ SLOTS) × (tally.copies + left ≤ COPIES) × (2 * (tally.copies + left) ≤ length list.old) }
-    ensures counts { result ≡ plus_copies left tally }
-    ensures copies { list.new ≡ put_copies list.old tally.copies (shift x (steps (dest places.now.now) left x)) }
-{
-    if left <= walks::STRETCH {
-        return write_shift(places, list, x, left, tally);
+impl Target for Numbers {
+    type Item = u16;
+
+    ghost step = { λ target at from to list. put_copies list at ((from, to) ∷ []) };
+
+    ghost ready = { λ target slots copies long. 2 * copies ≤ long };
+
+    fn copy(self, list: &mut [u16], at: usize, from: usize, to: u16) {
+        put_copy(list, at, from as u16, to);
     }
-    let far = walks::slot_after(places, x, walks::STRETCH);
-    let made = write_chain(places, list, far, left - walks::STRETCH, tally);
-    write_shift(places, list, x, walks::STRETCH, made)
+
+    ghost fewer = { λ target slots m n long h r. le_trans (mul-le-mul_left 2 h) r };
 }
 
 // The copies of a factor: of a shift, or by the hand.
@@ -127,12 +116,12 @@ pub fn write_walk(
     ensures copies { list.new ≡ put_copies list.old tally.copies (walked places.now head left end) }
 {
     if end == Job::FREE {
-        return write_chain(&places, list, head, left, tally);
+        return chains::make_chain(Numbers, &places, list, head, left, tally);
     }
     let first = tally.copies;
     put_copy(list, first, end, Job::HAND);
     let held = tally.add_copy();
-    let shifted = write_chain(&places, list, head, left, held);
+    let shifted = chains::make_chain(Numbers, &places, list, head, left, held);
     let last = shifted.copies;
     put_copy(list, last, Job::HAND, head as u16);
     shifted.add_copy()
