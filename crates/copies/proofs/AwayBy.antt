@@ -1,11 +1,11 @@
 -- Which cards are away, by the table of each slot's rack. Assumes nothing.
-use mathlib.Core.Path.{◌≡◌, refl, sym, ap, ◌∙◌}
-use mathlib.Core.Bool.{Bool, true, false, ◌||◌}
+use mathlib.Core.Path.{◌≡◌, sym, ap, ◌∙◌}
+use mathlib.Core.Bool.{Bool, ◌||◌}
 use mathlib.Core.List.{List}
 use Prim.Native.Nat.{ℕ, ◌+◌}
 use lib.ListN.{length}
-use Rattle.counting.specs.Tests.{◌or◌}
 use Rattle.counting.specs.Count.{some}
+use Rattle.counting.proofs.Tests.{or-code}
 use Rattle.counting.proofs.Some.{some_more, some_cong}
 use Rattle.racks.specs.Racks.{Rack, slots}
 use Rattle.racks.specs.Table.{away}
@@ -15,16 +15,10 @@ use Rattle.tables.specs.parts.Tables.{away_by, Filled}
 use Rattle.tables.proofs.Targets.{away_by_lem}
 use Rattle.copies.specs.parts.Writes.{some_away_by}
 
--- one of two tests, as the code has it
-or_is : (a b : Bool) → (a || b) ≡ (a or b)
-unfolding ◌or◌
-or_is true b = refl
-or_is false b = refl
-
 module _ (racking places : List ℕ) (g : ℕ) where
   -- one slot more
   pub some_next : (found away : Bool) → found ≡ some g (away_by racking places) → away ≡ away_by racking places g → (found || away) ≡ some (g + 1) (away_by racking places)
-  some_next found away e f = or_is found away ∙ rw (e, f) (sym (some_more g (away_by racking places)))
+  some_next found away e f = or-code found away ∙ rw (e, f) (sym (some_more g (away_by racking places)))
 
   -- all slots
   pub some-whole : (found : Bool) → g ≡ length places → found ≡ some g (away_by racking places) → found ≡ some_away_by racking places

@@ -1,6 +1,5 @@
 -- Laws of numbers in groups of seven bits, as the writer counts them and puts them into a buffer. Assumes nothing.
 use mathlib.Core.Path.{◌≡◌, refl, sym, ap, ◌∙◌}
-use mathlib.Core.Bool.{Bool, true, false}
 use mathlib.Core.List.{List, [], ◌∷◌, ◌++◌, append_assoc, append-nil}
 use Prim.Native.Nat.{ℕ, zero, suc, ◌+◌, ◌*◌, ◌%◌, ◌/◌, ◌≤◌, ◌<◌}
 use native.Mathlib.Omega.{arith}
@@ -9,7 +8,6 @@ use native.Mathlib.Numerals.{add-one}
 use lib.Dec.{leb}
 use lib.ListN.{length, get_or, set, take, drop, length-set, length-append, take-append-drop}
 use lib.Seq.{sets, set-set, take-suc, take_all}
-use mir.Val.{bool_byte}
 use borrow.Author.Tests.{lt-ltb, le-ltb, le-leb, lt-leb}
 use Rattle.counting.specs.Tests.{bit}
 use Rattle.counting.specs.Lists.{join, each}
@@ -17,11 +15,6 @@ use Rattle.counting.proofs.Tests.{bit_le}
 use Rattle.counting.proofs.Lists.{each_append, join-append}
 use Rattle.jobwriter.specs.Writing.{groups_of, numeral_of, numerals_of}
 use Rattle.jobwriter.specs.parts.Puts.{Short, Put, Roomy}
-
--- a test as a number
-pub bit_is : (test : Bool) → bool_byte test ≡ bit test
-bit_is true = refl
-bit_is false = refl
 
 -- a number below 128 is one group
 pub one_group : (x : ℕ) → x < 128 → numeral_of x ≡ x ∷ []

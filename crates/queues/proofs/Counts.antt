@@ -8,17 +8,11 @@ use native.Mathlib.Omega.{arith}
 use native.Mathlib.Decide.{ℕ_discrete}
 use lib.ListN.{length, get_or, set, length-set}
 use lib.Seq.{get_or-set_same, get_or-set_other, set-get_or}
-use mir.Val.{bool_byte}
 use Rattle.counting.specs.Tests.{bit, pick}
 use Rattle.counting.specs.Count.{count}
 use Rattle.counting.proofs.Tests.{by-test, no_way}
 use Rattle.counting.proofs.Count.{count-on, count-off}
 use Rattle.queues.specs.parts.Queued.{one_more}
-
--- a test made a number is its bit
-pub from-bit : (test : Bool) → bool_byte test ≡ bit test
-from-bit true = refl
-from-bit false = refl
 
 -- to add 0 or 1 by a test is to add one where it passes
 pub more_by : (test : Bool) (k : ℕ) (l : List ℕ) → set l k (get_or l k 0 + bit test) ≡ pick test (one_more l k) l

@@ -1,7 +1,7 @@
 -- The slots settled: the new table, the free slots listed, and zeroed. Assumes nothing.
 use mathlib.Core.Path.{◌≡◌, refl, sym, ap, ◌∙◌}
 use mathlib.Core.Logic.{◌≢◌}
-use mathlib.Core.Bool.{Bool, true, false}
+use mathlib.Core.Bool.{true, false}
 use mathlib.Core.List.{List}
 use Prim.Native.Nat.{ℕ, ◌+◌, ◌*◌, ◌≤◌, ◌<◌}
 use native.Mathlib.Omega.{arith}
@@ -9,8 +9,6 @@ use native.Mathlib.Decide.{ℕ_discrete}
 use lib.ListN.{length, get_or, take, length-set}
 use lib.Seq.{get_or-set_same, get_or-set_other, get_or-take, length-take-le}
 use borrow.Author.Tests.{eq-eqb, ne_eqb}
-use mir.Val.{bool_byte}
-use Rattle.counting.specs.Tests.{bit}
 use Rattle.counting.specs.Lists.{tabulate, join}
 use Rattle.counting.proofs.Tests.{off}
 use Rattle.counting.proofs.Some.{some-hit, some-found}
@@ -27,11 +25,6 @@ use Rattle.shuffle.specs.Shuffle.{is_named, last_entry, last_card}
 use Rattle.shuffler.specs.parts.Settled.{entry_by, SlotSettled, FreeListed, TableSettled, AllBelow, Zeroed}
 use Rattle.shuffle.specs.parts.Shuffled.{AllSettled}
 use Rattle.shuffle.proofs.Settled.{last-named, last-free, card-named, card-free, length_last, length-slots, block-slots}
-
--- a test as a number, as the code has it
-pub bit-is : (test : Bool) → bool_byte test ≡ bit test
-bit-is true = refl
-bit-is false = refl
 
 -- no card is bound for a slot exactly where no entry names it
 module _ {places : List ℕ} (ok : Chained places) (d : ℕ) where

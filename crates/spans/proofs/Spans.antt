@@ -1,5 +1,5 @@
 -- Laws of spans: the compare of an entry with a range, the pass over a span, and slots put into pairs. Assumes nothing.
-use mathlib.Core.Path.{◌≡◌, refl, ap, sym, ◌∙◌}
+use mathlib.Core.Path.{◌≡◌, ap, sym, ◌∙◌}
 use mathlib.Core.Bool.{Bool, true, false}
 use mathlib.Core.List.{List, [], ◌∷◌, ◌++◌}
 use Prim.Native.Nat.{ℕ, suc, ◌+◌, ◌-◌, ◌*◌, ◌%◌, ◌≤◌, ◌<◌, min}
@@ -10,7 +10,6 @@ use native.Mathlib.Decide.{ℕ_discrete, dec_le}
 use lib.Dec.{eqb, ltb}
 use lib.ListN.{length, get_or, take, set, length-append, length-take}
 use lib.Seq.{set-get_or, take-nil}
-use mir.Val.{bool_byte}
 use borrow.Author.Tests.{le-leb, lt-leb, le-ltb}
 use Rattle.counting.specs.Tests.{◌and◌, ◌or◌, pick, bit}
 use Rattle.counting.specs.Count.{count, some, least, select_from}
@@ -50,11 +49,6 @@ lies_by range x f = elim (dec_le range.first x) [
   | yes l ↦ rw (← behind-on range.first x l, le-leb range.first x l)
   | no l ↦ rw (← behind-off range.first x (omega arith), lt-leb range.first x (omega arith)) (le-ltb _ range.width (omega (arith, f)))
 ]
-
--- a test as a number
-pub bit_is : (test : Bool) → bool_byte test ≡ bit test
-bit_is true = refl
-bit_is false = refl
 
 -- as code reads the entry
 pub lies-read : (places : List ℕ) (range : Range) (g : ℕ) → g < length places → lies range (get_or places g 0) ≡ entry_in places range g

@@ -1,6 +1,5 @@
 // What the layers above share: one slot's rack, each slot's rack in a list of bytes, and the refusal of a lent table.
 ghost use Rattle.std.specs.Prelude.{◌≡◌, ◌≤◌, length};
-ghost use Rattle.counting.specs.Tests.{bit};
 ghost use Rattle.answers.specs.Answers.{refused};
 ghost use Rattle.racks.specs.Limits.{BYTES, SLOTS, MARKS};
 ghost use Rattle.racks.specs.Racks.{rack_of};
@@ -21,16 +20,6 @@ pub fn named_slot(x: u16, g: usize) -> usize
     x as usize
 }
 
-// 1 where a test passes, else 0: what is added in a pass without a branch.
-pub fn one_if(test: bool) -> u16
-    ensures { result ≡ bit test }
-{
-    if test {
-        return 1;
-    }
-    0
-}
-
 // The rack of slot g: as many racks end at g or before. For a few slots only; where every slot's rack is asked for, the racking has it.
 pub fn rack_of(job: Job, g: usize) -> usize
     requires { Sound job }
@@ -39,7 +28,7 @@ pub fn rack_of(job: Job, g: usize) -> usize
     let mut rack: u16 = 0;
     for p in 0..job.racks {
         let end = job.ends[p] as usize;
-        rack += one_if(end <= g);
+        rack += u16::from(end <= g);
     }
     rack as usize
 }

@@ -8,14 +8,14 @@ use Rattle.counting.specs.Lists.{each}
 use Rattle.racks.specs.Job.{racks_of}
 use Rattle.racks.proofs.Jobs.{sound-count}
 use Rattle.jobwriter.specs.Writing.{numerals_of, cap_of, file_entry}
-use Rattle.jobwriter.proofs.Puts.{bit_is}
+use Rattle.counting.proofs.Tests.{bit-code}
 use Rattle.jobwriter.proofs.Files.{caps-given, entries-given, numbers-size, caps-few, entries-few}
 use Rattle.jobwriter.proofs.parts.numbers_size.Goals as goal
 use Rattle.jobwriter.proofs.parts.numbers_size.Goals.{After-from-more, After-count_bytes-caps, After-count_bytes-entries}
 
 -- a second group of B, or none
 one : (c : After-from-more) → c.from-more.result ≤ 1
-one c = bit_le _ _ (c.from-more.ensures ∙ bit_is _)
+one c = bit_le _ _ (c.from-more.ensures ∙ bit-code _)
 
 pub count_bytes-caps-requires : goal.count_bytes-caps-requires
 count_bytes-caps-requires c = (
@@ -51,4 +51,4 @@ overflow_add-result-3 c =
 
 pub returns : goal.returns
 returns c =
-    numbers-size (racks_of c.args.job) c.args.b _ _ _ c.args.places.now c.requires.sound.few c.requires.bytes (c.from-more.ensures ∙ bit_is _) (caps (goal.at.returns c).After-count_bytes-caps) (entries (goal.at.returns c).After-count_bytes-entries)
+    numbers-size (racks_of c.args.job) c.args.b _ _ _ c.args.places.now c.requires.sound.few c.requires.bytes (c.from-more.ensures ∙ bit-code _) (caps (goal.at.returns c).After-count_bytes-caps) (entries (goal.at.returns c).After-count_bytes-entries)

@@ -7,7 +7,7 @@ use lib.ListN.{get_or}
 use Rattle.counting.proofs.Tests.{bit_le}
 use Rattle.owed.specs.parts.Owed.{cell}
 use Rattle.tables.proofs.Targets.{aim-small, aim-racked}
-use Rattle.queues.proofs.Counts.{from-bit}
+use Rattle.counting.proofs.Tests.{bit-code}
 use Rattle.owed.proofs.Owed.{aims, slot-cell, counted-slot}
 use Rattle.owed.proofs.parts.count_slot.Goals as goal
 use Rattle.owed.proofs.parts.count_slot.Goals.{After-named_slot}
@@ -34,10 +34,10 @@ bounds-owes-k c = omega (arith, at (goal.at.bounds-owes-k c).After-named_slot)
 pub overflow_add-owes : goal.overflow_add-owes
 overflow_add-owes c = let from = get_or c.args.racking.now c.args.g 0 in
     let to = get_or c.args.racking.now c.named_slot.result 0 in
-    omega (arith, c.requires.owed-fit (cell from to), bit_le _ (not (eqb from to)) (c.from.ensures ∙ from-bit _))
+    omega (arith, c.requires.owed-fit (cell from to), bit_le _ (not (eqb from to)) (c.from.ensures ∙ bit-code _))
 
 pub bounds-owes-k-2 : goal.bounds-owes-k-2
 bounds-owes-k-2 c = omega (arith, at (goal.at.bounds-owes-k-2 c).After-named_slot)
 
 pub returns : goal.returns
-returns c = counted-slot _ _ _ _ c.named_slot.ensures _ c.requires _ (c.from.ensures ∙ from-bit _)
+returns c = counted-slot _ _ _ _ c.named_slot.ensures _ c.requires _ (c.from.ensures ∙ bit-code _)

@@ -5,7 +5,8 @@ use Rattle.counting.specs.Tests.{bit}
 use Rattle.counting.proofs.Tests.{bit_le}
 use Rattle.counting.proofs.Count.{count_none, count-more, count_le}
 use Rattle.spans.specs.parts.Spans.{entry_in, entries_in}
-use Rattle.spans.proofs.Spans.{bit_is, lies-read}
+use Rattle.spans.proofs.Spans.{lies-read}
+use Rattle.counting.proofs.Tests.{bit-code}
 use Rattle.spans.proofs.parts.count_in.Goals as goal
 use Rattle.spans.proofs.parts.count_in.Goals.{After-from-found}
 
@@ -15,7 +16,7 @@ loop-k-init c = sym (count_none _)
 -- what is added: whether the entry lies in the range
 adds : (c : After-from-found)
     → c.from-found.result ≡ bit (entry_in c.args.places.now c.args.range (c.args.low + c.loop-k.k))
-adds c = c.from-found.ensures ∙ bit_is _ ∙ ap bit (c.lies.ensures ∙ lies-read _ _ _ (omega arith))
+adds c = c.from-found.ensures ∙ bit-code _ ∙ ap bit (c.lies.ensures ∙ lies-read _ _ _ (omega arith))
 
 pub overflow_add-found : goal.overflow_add-found
 overflow_add-found c =

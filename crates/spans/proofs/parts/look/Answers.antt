@@ -6,7 +6,8 @@ use Rattle.counting.specs.Tests.{pick, bit}
 use Rattle.counting.proofs.Tests.{bit_le}
 use Rattle.counting.proofs.Count.{count_none, count-more, count_le}
 use Rattle.spans.specs.parts.Spans.{entry_in}
-use Rattle.spans.proofs.Spans.{bit_is, lies-read, lowest-zero, lowest-more, hits-all}
+use Rattle.spans.proofs.Spans.{lies-read, lowest-zero, lowest-more, hits-all}
+use Rattle.counting.proofs.Tests.{bit-code}
 use Rattle.spans.proofs.parts.look.Goals as goal
 use Rattle.spans.proofs.parts.look.Goals.{After-from, After-min-lowest, then-hit, else-hit}
 
@@ -19,7 +20,7 @@ lies-hit-requires c = c.requires.1
 -- what is added for it
 adds : (c : After-from)
     → c.from.result ≡ bit (entry_in c.args.places.now c.args.range (c.args.low + c.loop-j.j))
-adds c = c.from.ensures ∙ bit_is _ ∙ ap bit (c.lies-hit.ensures ∙ lies-read _ _ _ (omega arith))
+adds c = c.from.ensures ∙ bit-code _ ∙ ap bit (c.lies-hit.ensures ∙ lies-read _ _ _ (omega arith))
 
 -- how far from the first slot this one is, where its entry lies in the range
 chosen : (c : After-min-lowest) → c.if-hit.min ≡ pick (entry_in c.args.places.now c.args.range (c.args.low + c.loop-j.j)) c.loop-j.j c.args.n

@@ -5,7 +5,8 @@ use lib.ListN.{length, length-set}
 use Rattle.counting.specs.Tests.{bit}
 use Rattle.counting.proofs.Tests.{bit_le}
 use Rattle.spans.specs.parts.Spans.{entry_in}
-use Rattle.spans.proofs.Spans.{bit_is, lies-read, putting_in, putting-more, putting-done}
+use Rattle.spans.proofs.Spans.{lies-read, putting_in, putting-more, putting-done}
+use Rattle.counting.proofs.Tests.{bit-code}
 use Rattle.spans.proofs.parts.put_hits.Goals as goal
 use Rattle.spans.proofs.parts.put_hits.Goals.{After-from-next, In-loop-next}
 
@@ -33,7 +34,7 @@ lies-requires c = c.requires.low_in_bounds.2
 
 -- what is added: whether the entry lies in the range
 adds : (c : After-from-next) → c.from-next.result ≡ bit (entry_in c.args.places.now c.args.range c.loop-next.g)
-adds c = c.from-next.ensures ∙ bit_is _ ∙ ap bit (c.lies.ensures ∙ lies-read _ _ _ (putting_in _ _ _ _ _ _ _ _ c.loop-next.invariant.1 (omega arith)))
+adds c = c.from-next.ensures ∙ bit-code _ ∙ ap bit (c.lies.ensures ∙ lies-read _ _ _ (putting_in _ _ _ _ _ _ _ _ c.loop-next.invariant.1 (omega arith)))
 
 -- which is 0 or 1
 one : (c : After-from-next) → c.from-next.result ≤ 1

@@ -1,25 +1,26 @@
 use native.Mathlib.Omega.{arith}
-use mathlib.Core.Path.{◌≡◌}
+use mathlib.Core.Path.{◌≡◌, ◌∙◌}
 use Prim.Native.Nat.{suc, ◌+◌, ◌<◌}
 use lib.ListN.{get_or}
 use Rattle.racks.specs.Racks.{base}
 use Rattle.racks.specs.Job.{racks_of}
 use Rattle.racks.proofs.Jobs.{sound-racks, sound-count, sound-ends}
+use Rattle.counting.proofs.Tests.{bit-code}
 use Rattle.tables.proofs.Fills.{Ended, ended-none, ended-more, ended-all}
 use Rattle.tables.proofs.parts.rack_of.Goals as goal
-use Rattle.tables.proofs.parts.rack_of.Goals.{After-one_if-rack, In-loop-p}
+use Rattle.tables.proofs.parts.rack_of.Goals.{After-from-rack, In-loop-p}
 
 -- there is one more rack
 next : (c : In-loop-p) → c.loop-p.p < 64
 next c = omega (arith, sound-count _ c.requires)
 
 -- where it ends
-end : (c : After-one_if-rack) → get_or c.args.job.ends c.loop-p.p 0 ≡ base (racks_of c.args.job) (suc c.loop-p.p)
+end : (c : After-from-rack) → get_or c.args.job.ends c.loop-p.p 0 ≡ base (racks_of c.args.job) (suc c.loop-p.p)
 end c = sound-ends c.args.job c.requires c.loop-p.p (omega (arith, sound-racks _ c.requires))
 
 -- it is counted
-more : (c : After-one_if-rack) → Ended (racks_of c.args.job) c.args.g (c.loop-p.p + 1) (c.loop-p.rack + c.one_if-rack.result)
-more c = let l = c.loop-p in ended-more _ _ l.p l.rack _ _ l.invariant (end c) c.one_if-rack.ensures
+more : (c : After-from-rack) → Ended (racks_of c.args.job) c.args.g (c.loop-p.p + 1) (c.loop-p.rack + c.from-rack.result)
+more c = let l = c.loop-p in ended-more _ _ l.p l.rack _ _ l.invariant (end c) (c.from-rack.ensures ∙ bit-code _)
 
 pub loop-p-init : goal.loop-p-init
 loop-p-init c = ended-none _ _

@@ -6,14 +6,14 @@ use Rattle.racks.proofs.Table.{read-dest}
 use Rattle.counting.specs.Tests.{bit}
 use Rattle.counting.proofs.Tests.{bit_le}
 use Rattle.counting.proofs.Count.{count_none, count_le, count-more}
-use Rattle.queues.proofs.Counts.{from-bit}
+use Rattle.counting.proofs.Tests.{bit-code}
 use Rattle.queues.proofs.parts.arrivals.count_free.Goals as goal
 use Rattle.queues.proofs.parts.arrivals.count_free.Goals.{After-from-free}
 
 -- what is added: whether the slot is free
 adds : (c : After-from-free) → c.from-free.result ≡ bit (free c.args.slots.now c.loop-entry.entry-index)
 unfolding free
-adds c = rw (read-dest c.args.slots.now c.loop-entry.entry-index (omega arith)) at (c.from-free.ensures ∙ from-bit _)
+adds c = rw (read-dest c.args.slots.now c.loop-entry.entry-index (omega arith)) at (c.from-free.ensures ∙ bit-code _)
 
 pub loop-entry-init : goal.loop-entry-init
 loop-entry-init c = sym (count_none _)

@@ -7,7 +7,7 @@ use lib.ListN.{get_or}
 use Rattle.counting.proofs.Tests.{bit_le}
 use Rattle.queues.specs.parts.Line.{tail_of}
 use Rattle.tables.proofs.Targets.{aim-small, aim-racked}
-use Rattle.queues.proofs.Counts.{from-bit}
+use Rattle.counting.proofs.Tests.{bit-code}
 use Rattle.queues.proofs.QueueSlot.{aims, slot-fits, queued-slot}
 use Rattle.queues.proofs.parts.arrivals.queue_slot.Goals as goal
 use Rattle.queues.proofs.parts.arrivals.queue_slot.Goals.{After-named_slot}
@@ -46,7 +46,7 @@ bounds-line-tail c = omega (arith, fits (goal.at.bounds-line-tail c).After-named
 
 pub overflow_add-line : goal.overflow_add-line
 overflow_add-line c = let n = c.named_slot.result in
-    omega (arith, fits (goal.at.overflow_add-line c).After-named_slot, bit_le _ (not (eqb (get_or c.args.racking.now c.args.g 0) (get_or c.args.racking.now n 0))) (c.from.ensures ∙ from-bit _))
+    omega (arith, fits (goal.at.overflow_add-line c).After-named_slot, bit_le _ (not (eqb (get_or c.args.racking.now c.args.g 0) (get_or c.args.racking.now n 0))) (c.from.ensures ∙ bit-code _))
 
 pub overflow_add-line-2 : goal.overflow_add-line-2
 overflow_add-line-2 c = omega (arith, racked (goal.at.overflow_add-line-2 c).After-named_slot)
@@ -58,4 +58,4 @@ pub bounds-line-there-2 : goal.bounds-line-there-2
 bounds-line-there-2 c = omega (arith, racked (goal.at.bounds-line-there-2 c).After-named_slot)
 
 pub returns : goal.returns
-returns c = queued-slot _ _ _ _ c.named_slot.ensures _ c.requires _ (c.from.ensures ∙ from-bit _)
+returns c = queued-slot _ _ _ _ c.named_slot.ensures _ c.requires _ (c.from.ensures ∙ bit-code _)

@@ -9,7 +9,7 @@ use Rattle.racks.specs.Limits.{FREE}
 use Rattle.racks.proofs.Table.{read-dest}
 use Rattle.counting.specs.Tests.{bit}
 use Rattle.counting.proofs.Tests.{bit_le}
-use Rattle.queues.proofs.Counts.{from-bit}
+use Rattle.counting.proofs.Tests.{bit-code}
 use Rattle.queues.proofs.Openings.{word_none, word_more, doubled_fits, read-long, read-front, read-item}
 use Rattle.queues.proofs.parts.openings.free_word.Goals as goal
 use Rattle.queues.proofs.parts.openings.free_word.Goals.{In-Some, After-from}
@@ -34,7 +34,7 @@ unfolding free
 adds c =
     let front = c.loop-entry.invariant.0 in
     let last = c.in-Some.ensures.steps in
-    c.from.ensures ∙ from-bit _ ∙ ap (λ (x : ℕ). bit (eqb x FREE)) (read-item _ _ _ _ front last ∙ read-dest c.args.slots.now _ (read-long _ _ _ _ front last).1)
+    c.from.ensures ∙ bit-code _ ∙ ap (λ (x : ℕ). bit (eqb x FREE)) (read-item _ _ _ _ front last ∙ read-dest c.args.slots.now _ (read-long _ _ _ _ front last).1)
 
 pub overflow_add-word : goal.overflow_add-word
 overflow_add-word c =
