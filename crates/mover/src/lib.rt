@@ -21,5 +21,5 @@ pub fn one_move(
     ensures { OneMove caps.now b (held places.old cards.old) (from, to) (outcome_of (answered result) places.new cards.new) }
 {
     let job = Job::of_cards(caps, b)?;
-    parts::move_job(job, b, places, cards, from, to)
+    parts::move_job(&job, b, places, cards, from, to)
 }

@@ -47,32 +47,32 @@ pub fn check_ends(
 
 // The check of a move: 4 to 6 for the table and its cards, then 7 to 11.
 fn check_move(
-    job: Job,
+    job: &Job,
     b: usize,
     places: &[u16],
     cards: &[u8],
     from: usize,
     to: usize,
 ) -> Result<(), Refusal>
-    requires { Sound job × (b ≤ BYTES) }
-    ensures { MoveChecked job b (held places.now cards.now) (from, to) (refused result) }
+    requires { Sound job.now × (b ≤ BYTES) }
+    ensures { MoveChecked job.now b (held places.now cards.now) (from, to) (refused result) }
 {
     let mut racking = [0u8; Job::MAX_SLOTS];
-    tables::parts::check_cards(job, b, places, cards, &mut racking)?;
-    check_ends(job, places, &racking, from, to)
+    tables::parts::check_cards(*job, b, places, cards, &mut racking)?;
+    check_ends(*job, places, &racking, from, to)
 }
 
 // One move, by the job.
 pub fn move_job(
-    job: Job,
+    job: &Job,
     b: usize,
     places: &mut [u16],
     cards: &mut [u8],
     from: usize,
     to: usize,
 ) -> Result<Tally, Refusal>
-    requires { Sound job × (b ≤ BYTES) }
-    ensures { outcome_of (answered result) places.new cards.new ≡ moved_by job b (held places.old cards.old) (from, to) }
+    requires { Sound job.now × (b ≤ BYTES) }
+    ensures { outcome_of (answered result) places.new cards.new ≡ moved_by job.now b (held places.old cards.old) (from, to) }
 {
     check_move(job, b, places, cards, from, to)?;
     carrying::parts::move_card(places, cards, b, from, to);
