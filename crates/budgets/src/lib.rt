@@ -21,5 +21,5 @@ pub fn budgeted_moves(
     ensures { BudgetedMoves caps.now b (held places.old cards.old) k (outcome_of (answered result) places.new cards.new) }
 {
     let job = Job::of_cards(caps, b)?;
-    parts::budget_job(job, b, places, cards, k)
+    parts::budget_job(&job, b, places, cards, k)
 }

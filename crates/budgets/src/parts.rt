@@ -123,16 +123,16 @@ pub fn move_cards(
 
 // Budgeted moves, by the job.
 pub fn budget_job(
-    job: Job,
+    job: &Job,
     b: usize,
     places: &mut [u16],
     cards: &mut [u8],
     k: usize,
 ) -> Result<Tally, Refusal>
-    requires { SoundSpared job × (b ≤ BYTES) }
-    ensures { outcome_of (answered result) places.new cards.new ≡ budgeted_by job b (held places.old cards.old) k }
+    requires { SoundSpared job.now × (b ≤ BYTES) }
+    ensures { outcome_of (answered result) places.new cards.new ≡ budgeted_by job.now b (held places.old cards.old) k }
 {
     let mut racking = [0u8; Job::MAX_SLOTS];
-    tables::parts::check_cards(job, b, places, cards, &mut racking)?;
-    Ok(move_cards(job, b, k, places, cards, &racking))
+    tables::parts::check_cards(*job, b, places, cards, &mut racking)?;
+    Ok(move_cards(*job, b, k, places, cards, &racking))
 }

@@ -14,5 +14,5 @@ pub fn copy_list(caps: &[u16], places: &[u16], lent: &mut [u16]) -> Result<Tally
     ensures { CopyList caps.now places.now lent.old (answered result) lent.new }
 {
     let job = Job::of(caps)?;
-    parts::copy_job(job, places, lent)
+    parts::copy_job(&job, places, lent)
 }

@@ -73,12 +73,12 @@ pub fn list_counted(
 }
 
 // The copy list, by the job. Once nothing is away, the racking serves as marks.
-pub fn copy_job(job: Job, places: &[u16], lent: &mut [u16]) -> Result<Tally, Refusal>
-    requires { Sound job }
-    ensures { listed_of (answered result) lent.new ≡ copied_by job places.now lent.old }
+pub fn copy_job(job: &Job, places: &[u16], lent: &mut [u16]) -> Result<Tally, Refusal>
+    requires { Sound job.now }
+    ensures { listed_of (answered result) lent.new ≡ copied_by job.now places.now lent.old }
 {
     let mut racking = [0u8; Job::MAX_SLOTS];
-    tables::parts::check_racked(job, places, &mut racking)?;
+    tables::parts::check_racked(*job, places, &mut racking)?;
     if some_away(&racking, places) {
         return Err(Refusal::SomeAway);
     }

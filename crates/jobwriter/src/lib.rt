@@ -20,5 +20,5 @@ pub fn write_file(
     ensures { WriteFile caps.now b places.now cards.now out.old (size_answered result) out.new }
 {
     let job = Job::of_cards(caps, b)?;
-    parts::write_job(job, b, places, cards, out)
+    parts::write_job(&job, b, places, cards, out)
 }

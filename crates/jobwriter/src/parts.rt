@@ -90,21 +90,21 @@ fn put_file(job: Job, b: usize, places: &[u16], cards: &[u8], out: &mut [u8])
 
 // Write file, by the job: the length first, then one pass.
 pub fn write_job(
-    job: Job,
+    job: &Job,
     b: usize,
     places: &[u16],
     cards: &[u8],
     out: &mut [u8],
 ) -> Result<usize, Refusal>
-    requires { SoundSpared job × (0 < b) × (b ≤ BYTES) }
-    ensures { sized_of (size_answered result) out.new ≡ filed_by job b places.now cards.now out.old }
+    requires { SoundSpared job.now × (0 < b) × (b ≤ BYTES) }
+    ensures { sized_of (size_answered result) out.new ≡ filed_by job.now b places.now cards.now out.old }
 {
     let mut racking = [0u8; Job::MAX_SLOTS];
-    tables::parts::check_cards(job, b, places, cards, &mut racking)?;
-    let size = numbers_size(job, b, places) + cards.len();
+    tables::parts::check_cards(*job, b, places, cards, &mut racking)?;
+    let size = numbers_size(*job, b, places) + cards.len();
     if out.len() < size {
         return Err(Refusal::BufferShort);
     }
-    put_file(job, b, places, cards, out);
+    put_file(*job, b, places, cards, out);
     Ok(size)
 }

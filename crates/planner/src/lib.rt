@@ -14,5 +14,5 @@ pub fn phase_plan(caps: &[u16], places: &[u16], lent: &mut [u16]) -> Result<Tall
     ensures { PhasePlan caps.now places.now lent.old (answered result) lent.new }
 {
     let job = Job::of(caps)?;
-    parts::plan_job(job, places, lent)
+    parts::plan_job(&job, places, lent)
 }

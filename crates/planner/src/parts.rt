@@ -58,15 +58,15 @@ pub fn write_plan(job: Job, places: &[u16], lent: &mut [u16], most: usize) -> us
 }
 
 // The phase plan, by the job.
-pub fn plan_job(job: Job, places: &[u16], lent: &mut [u16]) -> Result<Tally, Refusal>
-    requires { Sound job }
-    ensures { listed_of (answered result) lent.new ≡ planned_by job places.now lent.old }
+pub fn plan_job(job: &Job, places: &[u16], lent: &mut [u16]) -> Result<Tally, Refusal>
+    requires { Sound job.now }
+    ensures { listed_of (answered result) lent.new ≡ planned_by job.now places.now lent.old }
 {
-    tables::parts::check_places(job, places)?;
-    let most = most_pairs(job, places, lent.len());
+    tables::parts::check_places(*job, places)?;
+    let most = most_pairs(*job, places, lent.len());
     if lent.len() < 2 * most {
         return Err(Refusal::TooShort);
     }
-    let written = write_plan(job, places, lent, most);
+    let written = write_plan(*job, places, lent, most);
     Ok(Tally::of_moves(written))
 }

@@ -20,5 +20,5 @@ pub fn whole_run(
     ensures { WholeRun caps.now b (held places.old cards.old) (outcome_of (answered result) places.new cards.new) }
 {
     let job = Job::of_cards(caps, b)?;
-    parts::run_job(job, b, places, cards)
+    parts::run_job(&job, b, places, cards)
 }

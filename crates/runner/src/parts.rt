@@ -32,11 +32,11 @@ pub fn run_cards(
 }
 
 // The whole run, by the job.
-pub fn run_job(job: Job, b: usize, places: &mut [u16], cards: &mut [u8]) -> Result<Tally, Refusal>
-    requires { SoundSpared job × (b ≤ BYTES) }
-    ensures { outcome_of (answered result) places.new cards.new ≡ ran_by job b (held places.old cards.old) }
+pub fn run_job(job: &Job, b: usize, places: &mut [u16], cards: &mut [u8]) -> Result<Tally, Refusal>
+    requires { SoundSpared job.now × (b ≤ BYTES) }
+    ensures { outcome_of (answered result) places.new cards.new ≡ ran_by job.now b (held places.old cards.old) }
 {
     let mut racking = [0u8; Job::MAX_SLOTS];
-    tables::parts::check_cards(job, b, places, cards, &mut racking)?;
-    Ok(run_cards(job, b, places, cards, &mut racking))
+    tables::parts::check_cards(*job, b, places, cards, &mut racking)?;
+    Ok(run_cards(*job, b, places, cards, &mut racking))
 }

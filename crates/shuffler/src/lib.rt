@@ -20,5 +20,5 @@ pub fn shuffle_cards(
     ensures { ShuffleCards caps.now b (held places.old cards.old) (outcome_of (answered result) places.new cards.new) }
 {
     let job = Job::of_cards(caps, b)?;
-    parts::shuffle_job(job, b, places, cards)
+    parts::shuffle_job(&job, b, places, cards)
 }

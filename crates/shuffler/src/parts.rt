@@ -104,16 +104,16 @@ fn settle_alone(
 
 // The shuffle, by the job. Once nothing is away, the racking serves as marks.
 pub fn shuffle_job(
-    job: Job,
+    job: &Job,
     b: usize,
     places: &mut [u16],
     cards: &mut [u8],
 ) -> Result<Tally, Refusal>
-    requires { Sound job × (b ≤ BYTES) }
-    ensures { outcome_of (answered result) places.new cards.new ≡ shuffled_by job b (held places.old cards.old) }
+    requires { Sound job.now × (b ≤ BYTES) }
+    ensures { outcome_of (answered result) places.new cards.new ≡ shuffled_by job.now b (held places.old cards.old) }
 {
     let mut racking = [0u8; Job::MAX_SLOTS];
-    tables::parts::check_cards(job, b, places, cards, &mut racking)?;
+    tables::parts::check_cards(*job, b, places, cards, &mut racking)?;
     if copies::parts::some_away(&racking, places) {
         return Err(Refusal::SomeAway);
     }

@@ -36,5 +36,5 @@ pub fn slot_question(caps: &[u16], places: &[u16], g: usize) -> Result<Slot, Ref
     ensures { SlotQuestion caps.now places.now g (slot_answered result) }
 {
     let job = Job::of(caps)?;
-    parts::ask_job(job, places, g)
+    parts::ask_job(&job, places, g)
 }

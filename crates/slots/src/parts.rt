@@ -55,15 +55,15 @@ pub fn state_of(job: Job, places: &[u16], g: usize) -> State
 }
 
 // The slot question, by the job.
-pub fn ask_job(job: Job, places: &[u16], g: usize) -> Result<Slot, Refusal>
-    requires { Sound job }
-    ensures { slot_answered result ≡ asked_by job places.now g }
+pub fn ask_job(job: &Job, places: &[u16], g: usize) -> Result<Slot, Refusal>
+    requires { Sound job.now }
+    ensures { slot_answered result ≡ asked_by job.now places.now g }
 {
-    tables::parts::check_places(job, places)?;
+    tables::parts::check_places(*job, places)?;
     if places.len() <= g {
         return Err(Refusal::NoSlot);
     }
-    let kind = kind_of(job, g);
-    let state = state_of(job, places, g);
+    let kind = kind_of(*job, g);
+    let state = state_of(*job, places, g);
     Ok(Slot { kind, state })
 }

@@ -34,5 +34,5 @@ returns c =
     let s = c.args in
     let h = held s.places.now s.cards.now in
     let m = c.move_cards.ensures in
-    outcome-done (refusal_by s.job s.places.now (cards_number s.job s.b s.places.now s.cards.now)) (moves_of (min s.k (aways (racks_of s.job) s.places.now))) (carried s.b (budget (racks_of s.job) s.k s.places.now) h) h _ (held _ _)
+    outcome-done (refusal_by s.job.now s.places.now (cards_number s.job.now s.b s.places.now s.cards.now)) (moves_of (min s.k (aways (racks_of s.job.now) s.places.now))) (carried s.b (budget (racks_of s.job.now) s.k s.places.now) h) h _ (held _ _)
     m.tally-is m.held-is (none_by _ _ _ c.in_ok-check_cards.ensures.refusal_is refl)

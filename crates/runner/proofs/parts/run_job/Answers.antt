@@ -32,5 +32,5 @@ returns c =
     let s = c.args in
     let h = held s.places.now s.cards.now in
     let m = c.run_cards.ensures in
-    outcome-done (refusal_by s.job s.places.now (cards_number s.job s.b s.places.now s.cards.now)) (counts (racks_of s.job) s.b h) (settled_held (racks_of s.job) s.b (gathered (racks_of s.job) s.b h)) h _ (held _ _)
+    outcome-done (refusal_by s.job.now s.places.now (cards_number s.job.now s.b s.places.now s.cards.now)) (counts (racks_of s.job.now) s.b h) (settled_held (racks_of s.job.now) s.b (gathered (racks_of s.job.now) s.b h)) h _ (held _ _)
     m.tally-is m.held-is (none_by _ _ _ c.in_ok-check_cards.ensures.refusal_is refl)

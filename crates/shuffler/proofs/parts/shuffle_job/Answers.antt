@@ -25,14 +25,14 @@ use Rattle.shuffler.proofs.parts.shuffle_job.Goals.{After-some_away, In_ok-check
 
 -- the table and its cards are accepted
 module _ (c : In_ok-check_cards) where
-  opened : OpenCards c.args.job c.args.b c.args.places.now c.args.cards.now c.check_cards.new.racking
+  opened : OpenCards c.args.job.now c.args.b c.args.places.now c.args.cards.now c.check_cards.new.racking
   opened = c.in_ok-check_cards.ensures.opened refl
 
-  none : cards_number c.args.job c.args.b c.args.places.now c.args.cards.now ≡ 0
+  none : cards_number c.args.job.now c.args.b c.args.places.now c.args.cards.now ≡ 0
   none = sym (cards-checked-number c.in_ok-check_cards.ensures)
 
 -- whether a card is away
-away : (c : After-some_away) → c.some_away.result ≡ some_away (racks_of c.args.job) c.args.places.now
+away : (c : After-some_away) → c.some_away.result ≡ some_away (racks_of c.args.job.now) c.args.places.now
 away c = c.some_away.ensures ∙ open-away (c.in_ok-check_cards.ensures.opened refl).table
 
 pub returns-in_err-check_cards : goal.returns-in_err-check_cards
@@ -41,7 +41,7 @@ returns-in_err-check_cards c =
     let s = c.args in
     let h = held s.places.now s.cards.now in
     let p = err_from_is_err_and c.from_residual.result c.from_residual.ensures.1 in
-    rw (p.1, p.2) (outcome-refused _ _ _ h _ (kept_by s.job s.places.now _ _ _ c.in_err-check_cards.ensures.refusal_is (refuses _)))
+    rw (p.1, p.2) (outcome-refused _ _ _ h _ (kept_by s.job.now s.places.now _ _ _ c.in_err-check_cards.ensures.refusal_is (refuses _)))
 
 pub some_away-requires : goal.some_away-requires
 some_away-requires c = open-chained (opened (goal.at.some_away-requires c).In_ok-check_cards).table
@@ -51,8 +51,8 @@ unfolding shuffled_by
 returns-then-some_away c =
     let s = c.args in
     let h = held s.places.now s.cards.now in
-    outcome-refused (refusal_by s.job s.places.now (shuffle_number s.job s.b h)) (copies_of (length (copy_list s.places.now))) (settled_held (racks_of s.job) s.b h) h case.SomeAway
-    (shuffled-away s.job s.b h (none (goal.at.returns-then-some_away c).In_ok-check_cards) (sym (away (goal.at.returns-then-some_away c).After-some_away) ∙ c.if-some_away.true))
+    outcome-refused (refusal_by s.job.now s.places.now (shuffle_number s.job.now s.b h)) (copies_of (length (copy_list s.places.now))) (settled_held (racks_of s.job.now) s.b h) h case.SomeAway
+    (shuffled-away s.job.now s.b h (none (goal.at.returns-then-some_away c).In_ok-check_cards) (sym (away (goal.at.returns-then-some_away c).After-some_away) ∙ c.if-some_away.true))
 
 pub settle_alone-requires : goal.settle_alone-requires
 settle_alone-requires c =
@@ -66,7 +66,7 @@ returns c =
     let s = c.args in
     let h = held s.places.now s.cards.now in
     let w = c.settle_alone.ensures in
-    outcome-done (refusal_by s.job s.places.now (shuffle_number s.job s.b h)) (copies_of (length (copy_list s.places.now))) (settled_held (racks_of s.job) s.b h) h _ (held _ _)
+    outcome-done (refusal_by s.job.now s.places.now (shuffle_number s.job.now s.b h)) (copies_of (length (copy_list s.places.now))) (settled_held (racks_of s.job.now) s.b h) h _ (held _ _)
     (w.count-is ∙ rw zero-add)
-    (settled-held (racks_of s.job) s.b s.places.now s.cards.now _ _ _ _ (opened (goal.at.returns c).In_ok-check_cards).table.legal.long w)
-    (shuffled-none s.job s.b h (none (goal.at.returns c).In_ok-check_cards) (sym (away (goal.at.returns c).After-some_away) ∙ c.if-some_away.false))
+    (settled-held (racks_of s.job.now) s.b s.places.now s.cards.now _ _ _ _ (opened (goal.at.returns c).In_ok-check_cards).table.legal.long w)
+    (shuffled-none s.job.now s.b h (none (goal.at.returns c).In_ok-check_cards) (sym (away (goal.at.returns c).After-some_away) ∙ c.if-some_away.false))
