@@ -122,7 +122,7 @@ pub fn move_cards(
 }
 
 // Budgeted moves, by the job.
-pub fn budget_job(
+pub(crate) fn budget_job(
     job: &Job,
     b: usize,
     places: &mut [u16],

@@ -89,7 +89,7 @@ fn put_file(job: Job, b: usize, places: &[u16], cards: &[u8], out: &mut [u8])
 }
 
 // Write file, by the job: the length first, then one pass.
-pub fn write_job(
+pub(crate) fn write_job(
     job: &Job,
     b: usize,
     places: &[u16],

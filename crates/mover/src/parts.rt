@@ -12,7 +12,7 @@ use answers::{Refusal, Tally};
 use racks::Job;
 
 // 7 to 11 for a move on a legal table.
-pub fn check_ends(
+fn check_ends(
     job: Job,
     places: &[u16],
     racking: &[u8; Job::MAX_SLOTS],
@@ -63,7 +63,7 @@ fn check_move(
 }
 
 // One move, by the job.
-pub fn move_job(
+pub(crate) fn move_job(
     job: &Job,
     b: usize,
     places: &mut [u16],

@@ -103,7 +103,7 @@ fn settle_alone(
 }
 
 // The shuffle, by the job. Once nothing is away, the racking serves as marks.
-pub fn shuffle_job(
+pub(crate) fn shuffle_job(
     job: &Job,
     b: usize,
     places: &mut [u16],
