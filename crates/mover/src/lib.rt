@@ -20,6 +20,9 @@ pub fn one_move(
 ) -> Result<Tally, Refusal>
     ensures { OneMove caps.now b (held places.old cards.old) (from, to) (outcome_of (answered result) places.new cards.new) }
 {
-    let job = Job::of_cards(caps, b)?;
-    parts::move_job(&job, b, places, cards, from, to)
+    // The job is looked at where it was made: a copy of it on the stack would be past this call's figure.
+    match &Job::of_cards(caps, b) {
+        Ok(job) => parts::move_job(job, b, places, cards, from, to),
+        Err(refusal) => Err(*refusal),
+    }
 }
