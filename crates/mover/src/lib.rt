@@ -5,7 +5,6 @@ ghost use Rattle.answers.specs.Answers.{answered};
 ghost use Rattle.moves.specs.Moves.{held, outcome_of, OneMove};
 
 use answers::{Refusal, Tally};
-use racks::Job;
 
 pub mod parts;
 
@@ -21,7 +20,7 @@ pub fn one_move(
     ensures { OneMove caps.now b (held places.old cards.old) (from, to) (outcome_of (answered result) places.new cards.new) }
 {
     // The job is looked at where it was made: a copy of it on the stack would be past this call's figure.
-    match &Job::of_cards(caps, b) {
+    match &parts::job_for(caps, b) {
         Ok(job) => parts::move_job(job, b, places, cards, from, to),
         Err(refusal) => Err(*refusal),
     }

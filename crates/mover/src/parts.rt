@@ -3,7 +3,7 @@ ghost use Rattle.std.specs.Prelude.{◌≡◌, ◌≤◌, length};
 ghost use Rattle.counting.specs.Checks.{first};
 ghost use Rattle.answers.specs.Answers.{placeless, refused, answered};
 ghost use Rattle.racks.specs.Limits.{BYTES};
-ghost use Rattle.racks.specs.Job.{racks_of, Sound};
+ghost use Rattle.racks.specs.Job.{racks_of, Sound, JobOfCards};
 ghost use Rattle.tables.specs.parts.Tables.{Open};
 ghost use Rattle.moves.specs.Moves.{end_checks, held, outcome_of};
 ghost use Rattle.mover.specs.parts.Moving.{moved_by, MoveChecked};
@@ -11,16 +11,24 @@ ghost use Rattle.mover.specs.parts.Moving.{moved_by, MoveChecked};
 use answers::{Refusal, Tally};
 use racks::Job;
 
+// The job of a move, made in a frame of its own: so no copy of it is left on the stack of the check.
+#[inline(never)]
+pub(crate) fn job_for(caps: &[u16], b: usize) -> Result<Job, Refusal>
+    ensures { JobOfCards caps.now b result }
+{
+    Job::of_cards(caps, b)
+}
+
 // 7 to 11 for a move on a legal table.
 fn check_ends(
-    job: Job,
+    job: &Job,
     places: &[u16],
     racking: &[u8; Job::MAX_SLOTS],
     from: usize,
     to: usize,
 ) -> Result<(), Refusal>
-    requires { Open job places.now racking.now }
-    ensures { refused result ≡ placeless (first (end_checks (racks_of job) places.now (from, to))) }
+    requires { Open job.now places.now racking.now }
+    ensures { refused result ≡ placeless (first (end_checks (racks_of job.now) places.now (from, to))) }
 {
     if job.slots <= from {
         return Err(Refusal::NoSlot);
@@ -59,7 +67,7 @@ fn check_move(
 {
     let mut racking = [0u8; Job::MAX_SLOTS];
     tables::parts::check_cards(*job, b, places, cards, &mut racking)?;
-    check_ends(*job, places, &racking, from, to)
+    check_ends(job, places, &racking, from, to)
 }
 
 // One move, by the job.
