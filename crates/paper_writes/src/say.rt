@@ -4,11 +4,7 @@ use std::io;
 use std::io::Write;
 
 // The number, the counts and the length.
-pub fn say_size<W: Write>(
-    to: &mut W,
-    name: &str,
-    given: Result<usize, Refusal>,
-) -> io::Result<()> {
+pub fn say_size<W: Write>(to: &mut W, name: &str, given: Result<usize, Refusal>) -> io::Result<()> {
     saying::parts::say_uncounted(to, name, &given)?;
     write!(to, " length {}", given.unwrap_or(0))
 }
