@@ -2,9 +2,8 @@ use native.Mathlib.Omega.{arith}
 use mathlib.Core.Path.{◌≡◌, ◌∙◌}
 use Prim.Native.Nat.{◌*◌, ◌≤◌, ◌<◌}
 use Rattle.counting.specs.Tests.{pick}
-use Rattle.spans.proofs.Spans.{bit_is}
 use lib.ListN.{length, get_or}
-use Rattle.counting.proofs.Tests.{bit_le}
+use Rattle.counting.proofs.Tests.{bit_le, bit-code}
 use Rattle.tables.proofs.Targets.{aim-small, aim-racked}
 use Rattle.shares.proofs.GrantCard.{next_small, grant-at, card-granted}
 use Rattle.shares.proofs.parts.cards.grant_card.Goals as goal
@@ -59,7 +58,7 @@ pub bounds-lent-at-2 : goal.bounds-lent-at-2
 bounds-lent-at-2 c = at_in (goal.at.bounds-lent-at-2 c).Joined-taken
 
 pub overflow_add-nexts : goal.overflow_add-nexts
-overflow_add-nexts c = omega (arith, few (goal.at.overflow_add-nexts c).After-named_slot, bit_le _ c.takes_card-taken.result (c.from-one.ensures ∙ bit_is _))
+overflow_add-nexts c = omega (arith, few (goal.at.overflow_add-nexts c).After-named_slot, bit_le _ c.takes_card-taken.result (c.from-one.ensures ∙ bit-code _))
 
 pub overflow_cast-nexts : goal.overflow_cast-nexts
 overflow_cast-nexts c = omega (arith, racked (goal.at.overflow_cast-nexts c).After-named_slot)
@@ -76,4 +75,4 @@ returns c =
       | then-taken-2 w ↦ rw w.if-taken-2.true w.lent-is
       | else-taken-2 w ↦ rw w.if-taken-2.false w.lent-is
     ] in
-    card-granted _ _ _ _ _ _ c.requires _ c.named_slot.ensures _ c.takes_card-taken.ensures _ (at_is (goal.at.returns c).Joined-taken) _ _ e (c.from-one.ensures ∙ bit_is _)
+    card-granted _ _ _ _ _ _ c.requires _ c.named_slot.ensures _ c.takes_card-taken.ensures _ (at_is (goal.at.returns c).Joined-taken) _ _ e (c.from-one.ensures ∙ bit-code _)
