@@ -7,7 +7,7 @@ use Rattle.counting.specs.Tests.{pick}
 use Rattle.counting.specs.One.{One}
 use Rattle.answers.proofs.Answers.{refuses}
 use Rattle.counting.proofs.One.{one-is, one_by}
-use Rattle.answers.specs.Answers.{Listed, listed_of, Sized, sized_of, SizeAnswer, Refusal, refusal_of, answered, TallyNone, TallyOfMoves, TallyOfCopies, NumberOf, PlaceOf, AnswerRefused, AnswerDone, AnswerGiven}
+use Rattle.answers.specs.Answers.{Listed, listed_of, Sized, sized_of, SizeAnswer, Refusal, refusal_of, answered, TallyNone, TallyOfMoves, TallyOfCopies, NumberOf, PlaceOf, AnswerNumbered, AnswerRefused, AnswerDone, AnswerGiven}
 use Rattle.answers.specs.declared.Tally.{Tally}
 use Rattle.answers.specs.declared.Refusal as given
 use Rattle.answers.specs.declared.Refusal.TheVariants as case
@@ -37,6 +37,9 @@ number_of-one refusal = one-is _
 
 pub place_of-one : (refusal : given.Refusal) → One (PlaceOf refusal)
 place_of-one refusal = one-is _
+
+pub answer-numbered-one : (number place : ℕ) → One (AnswerNumbered number place)
+answer-numbered-one number place = one-is _
 
 pub answer-refused-one : (refusal : given.Refusal) → One (AnswerRefused refusal)
 answer-refused-one refusal = one-is _

@@ -2,7 +2,7 @@
 #![tactic(auto)]
 
 ghost use Rattle.std.specs.Prelude.{◌≡◌};
-ghost use Rattle.answers.specs.Answers.{TallyNone, TallyOfMoves, TallyOfCopies, NumberOf, PlaceOf, AnswerRefused, AnswerDone, AnswerGiven};
+ghost use Rattle.answers.specs.Answers.{TallyNone, TallyOfMoves, TallyOfCopies, NumberOf, PlaceOf, AnswerNumbered, AnswerRefused, AnswerDone, AnswerGiven};
 
 pub mod parts;
 
@@ -139,16 +139,23 @@ pub struct Answer {
 }
 
 impl Answer {
+    // Any number and place, also one that the rules' list has not, with no counts.
+    pub fn numbered(number: u8, place: usize) -> Answer
+        ensures { AnswerNumbered number place result }
+    {
+        let tally = Tally::none();
+        Answer {
+            number,
+            place,
+            tally,
+        }
+    }
+
     // A refusal's number and place, with no counts.
     pub fn refused(refusal: Refusal) -> Answer
         ensures { AnswerRefused refusal result }
     {
-        let tally = Tally::none();
-        Answer {
-            number: refusal.number(),
-            place: refusal.place(),
-            tally,
-        }
+        Answer::numbered(refusal.number(), refusal.place())
     }
 
     // Done, with the counts.

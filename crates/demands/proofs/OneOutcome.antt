@@ -5,7 +5,7 @@ use Prim.Native.Nat.{ℕ}
 use Rattle.counting.specs.One.{One}
 use Rattle.counting.proofs.One.{one-is, one_by}
 use Rattle.answers.specs.declared.Answer.{Answer}
-use Rattle.answers.proofs.One.{tally-none-one, tally_of-moves-one, tally_of-copies-one, number_of-one, place_of-one, answer-refused-one, answer-done-one, answer-given-one}
+use Rattle.answers.proofs.One.{tally-none-one, tally_of-moves-one, tally_of-copies-one, number_of-one, place_of-one, answer-numbered-one, answer-refused-one, answer-done-one, answer-given-one}
 use Rattle.racks.proofs.One.{job_of-one, job_of_cards-one}
 use Rattle.tables.proofs.One.{check-table-one}
 use Rattle.slots.proofs.One.{slot_question-one}
@@ -102,6 +102,7 @@ one-outcome =
       tally_of-copies = tally_of-copies-one;
       number_of = number_of-one;
       place_of = place_of-one;
+      answer-numbered = answer-numbered-one;
       answer-refused = answer-refused-one;
       answer_of_lem = answer-given-one;
       answer-done = answer-done-one;

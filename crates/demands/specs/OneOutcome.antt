@@ -4,7 +4,7 @@ use Rattle.std.specs.Prelude.{List, ℕ, Result}
 use Rattle.std.specs.Borrow.{Bor}
 use Rattle.counting.specs.One.{One, OneSeen}
 use Rattle.racks.specs.Job.{JobOf, JobOfCards}
-use Rattle.answers.specs.Answers.{TallyNone, TallyOfMoves, TallyOfCopies, NumberOf, PlaceOf, AnswerRefused, AnswerDone, AnswerGiven}
+use Rattle.answers.specs.Answers.{TallyNone, TallyOfMoves, TallyOfCopies, NumberOf, PlaceOf, AnswerNumbered, AnswerRefused, AnswerDone, AnswerGiven}
 use Rattle.answers.specs.declared.Tally.{Tally}
 use Rattle.answers.specs.declared.Refusal as given
 use Rattle.answers.specs.declared.Answer.{Answer}
@@ -65,6 +65,7 @@ pub record OneOutcome : Type 0 where
   pub tally_of-copies : (copies : ℕ) → One (TallyOfCopies copies)
   pub number_of : (refusal : given.Refusal) → One (NumberOf refusal)
   pub place_of : (refusal : given.Refusal) → One (PlaceOf refusal)
+  pub answer-numbered : (number place : ℕ) → One (AnswerNumbered number place)
   pub answer-refused : (refusal : given.Refusal) → One (AnswerRefused refusal)
   pub answer-done : (tally : Tally) → One (AnswerDone tally)
   pub answer_of_lem : (r : Result Tally given.Refusal) → One (AnswerGiven r)
