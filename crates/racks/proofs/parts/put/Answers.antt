@@ -1,13 +1,13 @@
 -- `racks::parts::put` meets its contract. Assumes nothing.
-use mathlib.Core.Path.{ap, ◌∙◌}
-use borrow.Rule.Slice.PartMut.{put_mid}
-use lib.ListN.{length}
-use Prim.Native.Nat.{◌+◌, ◌-◌}
-use Rattle.racks.proofs.Puts.{sets-mid}
+use mathlib.Core.Path.{◌≡◌}
+use Prim.Native.Nat.{◌+◌}
+use lib.ListN.{length-set}
+use lib.Seq.{sets}
+use native.Mathlib.Omega.{arith}
+use Rattle.racks.proofs.Puts.{sets-more}
 use Rattle.racks.proofs.parts.put.Goals as goal
 
-pub returns : goal.returns
-returns g c =
-    let at = c.args.at in
-    let items = c.args.items.now in
-    ap (put_mid at (at + length items - at) c.args.out.now) c.copy_from_slice.ensures.after ∙ sets-mid c.args.out.now items at c.requires
+pub loop-i-preserved : goal.loop-i-preserved
+loop-i-preserved g c =
+    let l = c.loop-i in
+    (simp length-set l.invariant.0, rw l.invariant.1 (sets-more c.args.out.now c.args.items.now c.args.at l.i c.index-items-i.result (omega arith) c.index-items-i.is))
