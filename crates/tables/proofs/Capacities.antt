@@ -5,17 +5,17 @@ use Prim.Native.Nat.{ℕ}
 use Rattle.std.specs.Prelude.{Err}
 use Rattle.counting.specs.Checks.{Check, first, known, done}
 use Rattle.counting.specs.Tests.{◌or◌, pick}
-use Rattle.counting.proofs.Checks.{first-append, first-known, first-join, first_past, first-clear, first_of, first-end}
+use Rattle.counting.proofs.Checks.{first-append, first-later, first-known, first-join, first_past, first-clear, first_of, first-end}
 use Rattle.answers.specs.Answers.{Refusal, placeless, refusal_of, answer, answered, no_counts, listed, listed_of}
 use Rattle.answers.specs.declared.Refusal as given
 use Rattle.answers.specs.declared.Tally.{Tally}
 use Rattle.answers.proofs.Answers.{refuses, listed-refused}
 use Rattle.racks.specs.Racks.{Rack, of_caps}
-use Rattle.racks.specs.Numbers.{bad_places, bad_cards, entry_checks, places_checks, table_checks, card_checks, rack_checks, size_checks, refusal_in}
+use Rattle.racks.specs.Numbers.{bad_bytes, bad_places, bad_cards, entry_checks, places_checks, table_checks, card_checks, rack_checks, size_checks, refusal_in}
 use Rattle.racks.specs.Job.{good_job, racks_of}
 use Rattle.racks.specs.declared.Job.{Job}
 use Rattle.racks.proofs.Jobs.{of-racks}
-use Rattle.racks.proofs.Caps.{sizes-racks}
+use Rattle.racks.proofs.Caps.{sizes-bytes, sizes-racks}
 use Rattle.racks.proofs.Legal.{checks-places}
 use Rattle.racks.proofs.Marked.{table-marked, cards-marked, sizes-marked}
 use Rattle.racks.proofs.Places.{NoPlace, place_none}
@@ -81,15 +81,16 @@ module _ (racks : List Rack) (places : List ℕ) (z : first (rack_checks racks) 
 
 -- and of its cards, where B is in order too
 module _ (racks : List Rack) (b : ℕ) (places cards : List ℕ) (z : first (size_checks racks b) ≡ 0) where
-  number-sizes : first ((bad_places racks places or bad_cards racks b cards, 4) ∷ entry_checks racks places) ≡ first (card_checks racks b places cards)
+  number-sizes : first ((bad_bytes b, 2) ∷ (bad_places racks places or bad_cards racks b cards, 4) ∷ entry_checks racks places) ≡ first (card_checks racks b places cards)
   unfolding size_checks card_checks
   number-sizes =
-      sym (first_past ((bad_places racks places or bad_cards racks b cards, 4) ∷ entry_checks racks places) (first-clear (sizes-marked racks b) z))
+      first-later _ 2 _ (sizes-bytes racks b z)
+      ∙ sym (first_past ((bad_places racks places or bad_cards racks b cards, 4) ∷ entry_checks racks places) (first-clear (sizes-marked racks b) z))
 
   number-cards : (rest : List Check)
-      → first (known (first ((bad_places racks places or bad_cards racks b cards, 4) ∷ entry_checks racks places)) ∷ rest) ≡ first (card_checks racks b places cards ++ rest)
+      → first (known (first ((bad_bytes b, 2) ∷ (bad_places racks places or bad_cards racks b cards, 4) ∷ entry_checks racks places)) ∷ rest) ≡ first (card_checks racks b places cards ++ rest)
   number-cards rest =
-      first-known (first ((bad_places racks places or bad_cards racks b cards, 4) ∷ entry_checks racks places)) rest
+      first-known (first ((bad_bytes b, 2) ∷ (bad_places racks places or bad_cards racks b cards, 4) ∷ entry_checks racks places)) rest
       ∙ ap (λ (n : ℕ). pick (done n) (first rest) n) number-sizes
       ∙ sym (first-join rest (cards-marked racks b places cards))
 
@@ -125,7 +126,7 @@ module _ (caps : List ℕ) (b : ℕ) (job : Job) (m : (first (size_checks (of_ca
       ≡ f (refusal_in (of_caps caps) places (first (card_checks (of_caps caps) b places cards))) (of_caps caps)
   unfolding cards_number
   of-cards f =
-      by-racks caps job of-sizes (λ (r : List Rack). f (refusal_in r places (first ((bad_places r places or bad_cards r b cards, 4) ∷ entry_checks r places))) r)
+      by-racks caps job of-sizes (λ (r : List Rack). f (refusal_in r places (first ((bad_bytes b, 2) ∷ (bad_places r places or bad_cards r b cards, 4) ∷ entry_checks r places))) r)
       ∙ ap (λ (n : ℕ). f (refusal_in (of_caps caps) places n) (of_caps caps)) (number-sizes (of_caps caps) b places cards m.0)
 
   pub of-card_refusal : (rest : List Rack → List Check) {A : Type 0} (f : Refusal → List Rack → A)
@@ -133,5 +134,5 @@ module _ (caps : List ℕ) (b : ℕ) (job : Job) (m : (first (size_checks (of_ca
       ≡ f (refusal_in (of_caps caps) places (first (card_checks (of_caps caps) b places cards ++ rest (of_caps caps)))) (of_caps caps)
   unfolding cards_number
   of-card_refusal rest f =
-      by-racks caps job of-sizes (λ (r : List Rack). f (refusal_in r places (first (known (first ((bad_places r places or bad_cards r b cards, 4) ∷ entry_checks r places)) ∷ rest r))) r)
+      by-racks caps job of-sizes (λ (r : List Rack). f (refusal_in r places (first (known (first ((bad_bytes b, 2) ∷ (bad_places r places or bad_cards r b cards, 4) ∷ entry_checks r places)) ∷ rest r))) r)
       ∙ ap (λ (n : ℕ). f (refusal_in (of_caps caps) places n) (of_caps caps)) (number-cards (of_caps caps) b places cards m.0 (rest (of_caps caps)))

@@ -1,8 +1,8 @@
 -- The check of a table, and of a table with its cards, by the job: what is refused, and what acceptance gives. Assumes nothing.
 use mathlib.Core.Path.{◌≡◌, refl, ap, sym, ◌∙◌}
-use mathlib.Core.Bool.{Bool, not}
+use mathlib.Core.Bool.{Bool, true, false, not}
 use mathlib.Core.List.{List, ◌∷◌}
-use Prim.Native.Nat.{ℕ, ◌*◌, ◌≤◌}
+use Prim.Native.Nat.{ℕ, ◌*◌}
 use native.Mathlib.Omega.{arith}
 use lib.ListN.{length}
 use borrow.Author.Tests.{eq-eqb, ne_eqb, eqb-true}
@@ -15,6 +15,7 @@ use Rattle.racks.specs.Racks.{Rack, slots}
 use Rattle.racks.specs.Numbers.{bad_count, bad_bytes, bad_size, bad_places, bad_cards, entry_checks, places_checks, card_checks}
 use Rattle.racks.specs.Job.{racks_of, Sound}
 use Rattle.racks.specs.declared.Job.{Job}
+use Rattle.racks.proofs.Caps.{bytes-few}
 use Rattle.racks.proofs.Jobs.{sound-slots}
 use Rattle.racks.proofs.Legal.{checks-4, checks-entries}
 use Rattle.racks.specs.parts.Legal.{Legal}
@@ -83,19 +84,34 @@ module _ (racks : List Rack) (b : ℕ) (places cards : List ℕ) where
       cards-good (first_off (bad_size racks) 3 _ (λ e. omega arith) c.1).1
 
 module _ (job : Job) (b : ℕ) (places cards : List ℕ) where
-  module _ (s : Sound job) where
+  pub cards-2 : bad_bytes b ≡ true → placeless 2 ≡ refusal_by job places (cards_number job b places cards)
+  unfolding cards_number
+  cards-2 h = placeless_by job places 2 _ (refl, refl) (sym (first-here _ 2 _ h))
+
+  -- past what B is refused with
+  past-2 : bad_bytes b ≡ false → cards_number job b places cards ≡ first ((bad_places (racks_of job) places or bad_cards (racks_of job) b cards, 4) ∷ entry_checks (racks_of job) places)
+  unfolding cards_number
+  past-2 h = first-later _ 2 _ h
+
+  -- where a table and its cards pass, B does
+  pub cards-bytes : cards_number job b places cards ≡ 0 → bad_bytes b ≡ false
+  unfolding cards_number
+  cards-bytes z = (first_off (bad_bytes b) 2 _ (λ e. omega arith) z).0
+
+  module _ (s : Sound job) (h : bad_bytes b ≡ false) where
     pub cards-4 : (length cards ≡ job.slots * b → ⊥) → placeless 4 ≡ refusal_by job places (cards_number job b places cards)
-    unfolding cards_number bad_cards
+    unfolding bad_cards
     cards-4 f =
         let g : length cards ≡ slots (racks_of job) * b → ⊥ = λ e. f (e ∙ ap (λ (n : ℕ). n * b) (sym (sound-slots job s))) in
-        placeless_by job places 4 _ (refl, refl) (sym (first-here _ 4 _ (or_r (bad_places (racks_of job) places) (ap not (ne_eqb (length cards) (slots (racks_of job) * b) g)))))
+        placeless_by job places 4 _ (refl, refl) (sym (past-2 h ∙ first-here _ 4 _ (or_r (bad_places (racks_of job) places) (ap not (ne_eqb (length cards) (slots (racks_of job) * b) g)))))
 
     pub cards-table : length cards ≡ job.slots * b → table_number job places ≡ cards_number job b places cards
-    unfolding table_number cards_number bad_cards places_checks
+    unfolding table_number bad_cards places_checks
     cards-table e =
         let q : length cards ≡ slots (racks_of job) * b = e ∙ ap (λ (n : ℕ). n * b) (sound-slots job s) in
         ap (λ (x : Bool). first ((x, 4) ∷ entry_checks (racks_of job) places))
         (sym (or_false (bad_places (racks_of job) places) (ap not (eq-eqb (length cards) (slots (racks_of job) * b) q))))
+        ∙ sym (past-2 h)
 
   -- a table with cards that is refused
   pub cards-refused : (x : Refusal) (racking : List ℕ) → x ≡ refusal_by job places (cards_number job b places cards) → (x.number ≡ 0 → ⊥)
@@ -103,12 +119,12 @@ module _ (job : Job) (b : ℕ) (places cards : List ℕ) where
   cards-refused x racking is f = record { refusal_is = is; opened = λ z. absurd (f z) }
 
   -- one that is not is accepted
-  pub cards_open : Sound job → b ≤ 256 → (racking : List ℕ) → Racked (racks_of job) racking → cards_number job b places cards ≡ 0 → OpenCards job b places cards racking
-  unfolding cards_number
-  cards_open s l racking racked z =
-      let g = cards-good (racks_of job) b places cards z in
+  pub cards_open : Sound job → (racking : List ℕ) → Racked (racks_of job) racking → cards_number job b places cards ≡ 0 → OpenCards job b places cards racking
+  cards_open s racking racked z =
+      let h = cards-bytes z in
+      let g = cards-good (racks_of job) b places cards (sym (past-2 h) ∙ z) in
       record {
         table = record { sound = s; legal = g.0; filled = racked.filled; long = racked.long };
-        bytes = l;
+        bytes = bytes-few b h;
         long = g.1;
       }

@@ -1,7 +1,7 @@
 // What the layers above share: one slot's rack, each slot's rack in a list of bytes, and the refusal of a lent table.
-ghost use Rattle.std.specs.Prelude.{◌≡◌, ◌≤◌, length};
+ghost use Rattle.std.specs.Prelude.{◌≡◌, length};
 ghost use Rattle.answers.specs.Answers.{refused};
-ghost use Rattle.racks.specs.Limits.{BYTES, SLOTS, MARKS};
+ghost use Rattle.racks.specs.Limits.{SLOTS, MARKS};
 ghost use Rattle.racks.specs.Racks.{rack_of};
 ghost use Rattle.racks.specs.Job.{racks_of, Sound};
 ghost use Rattle.tables.specs.parts.Tables.{named_slot, Racked, Judged, Checked, CardsChecked};
@@ -85,7 +85,7 @@ pub fn check_racked(
     Ok(())
 }
 
-// The check of a table and its cards of b bytes; where it passes, each slot's rack is known.
+// The check of b, of a table and of its cards of b bytes: 2, then 4 to 6. Where it passes, each slot's rack is known.
 pub fn check_cards(
     job: Job,
     b: usize,
@@ -93,9 +93,10 @@ pub fn check_cards(
     cards: &[u8],
     racking: &mut [u8; Job::MAX_SLOTS],
 ) -> Result<(), Refusal>
-    requires { Sound job × (b ≤ BYTES) × (length racking.old ≡ SLOTS) }
+    requires { Sound job × (length racking.old ≡ SLOTS) }
     ensures { CardsChecked job b places.now cards.now (refused result) racking.new }
 {
+    racks::parts::check_bytes(b)?;
     if cards.len() != job.slots * b {
         return Err(Refusal::BadLength);
     }

@@ -7,7 +7,7 @@ use Rattle.racks.specs.Limits.{RACKS, BYTES, SLOTS, FREE}
 use Rattle.racks.specs.Racks.{Rack, slots, rack_of}
 use Rattle.racks.specs.Table.{dest}
 use Rattle.racks.specs.parts.Legal.{Legal}
-use Rattle.racks.specs.Numbers.{bad_places, bad_cards, entry_checks, places_checks, refusal_in}
+use Rattle.racks.specs.Numbers.{bad_bytes, bad_places, bad_cards, entry_checks, places_checks, refusal_in}
 use Rattle.racks.specs.Job.{racks_of, Sound}
 use Rattle.racks.specs.declared.Job.{Job}
 
@@ -71,10 +71,13 @@ pub record Checked (job : Job) (places : List ℕ) (refusal : Refusal) (racking 
   pub refusal_is : refusal ≡ refusal_by job places (table_number job places)
   pub opened : refusal.number ≡ 0 → Open job places racking
 
--- the number of a table and its cards, by a job: 4 to 6
+-- the number of a table and its cards, by a job: 2, then 4 to 6
 unfoldable pub cards_number : Job → ℕ → List ℕ → List ℕ → ℕ
 cards_number job b places cards =
-    first ((bad_places (racks_of job) places or bad_cards (racks_of job) b cards, 4) ∷ entry_checks (racks_of job) places)
+    first
+    ((bad_bytes b, 2)
+    ∷ (bad_places (racks_of job) places or bad_cards (racks_of job) b cards, 4)
+    ∷ entry_checks (racks_of job) places)
 
 -- what the check of a table and its cards gives: the number and its place, and where the number is 0 what acceptance gives
 pub record CardsChecked (job : Job) (b : ℕ) (places cards : List ℕ) (refusal : Refusal) (racking : List ℕ) : Type 0 where
