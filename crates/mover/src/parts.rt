@@ -1,8 +1,7 @@
 // One move: its check, and the move made.
-ghost use Rattle.std.specs.Prelude.{◌≡◌, ◌≤◌, length};
+ghost use Rattle.std.specs.Prelude.{◌≡◌};
 ghost use Rattle.counting.specs.Checks.{first};
 ghost use Rattle.answers.specs.Answers.{placeless, refused, answered};
-ghost use Rattle.racks.specs.Limits.{BYTES};
 ghost use Rattle.racks.specs.Job.{racks_of, Sound, JobOfCards};
 ghost use Rattle.tables.specs.parts.Tables.{Open};
 ghost use Rattle.moves.specs.Moves.{end_checks, held, outcome_of};
@@ -20,7 +19,7 @@ pub(crate) fn job_for(caps: &[u16], b: usize) -> Result<Job, Refusal>
 }
 
 // 7 to 11 for a move on a legal table.
-fn check_ends(
+pub fn check_ends(
     job: &Job,
     places: &[u16],
     racking: &[u8; Job::MAX_SLOTS],
@@ -53,7 +52,7 @@ fn check_ends(
     Ok(())
 }
 
-// The check of a move: 4 to 6 for the table and its cards, then 7 to 11.
+// The check of a move: 2 and 4 to 6 for the table and its cards, then 7 to 11.
 fn check_move(
     job: &Job,
     b: usize,
@@ -62,7 +61,7 @@ fn check_move(
     from: usize,
     to: usize,
 ) -> Result<(), Refusal>
-    requires { Sound job.now × (b ≤ BYTES) }
+    requires { Sound job.now }
     ensures { MoveChecked job.now b (held places.now cards.now) (from, to) (refused result) }
 {
     let mut racking = [0u8; Job::MAX_SLOTS];
@@ -71,7 +70,7 @@ fn check_move(
 }
 
 // One move, by the job.
-pub(crate) fn move_job(
+pub fn move_job(
     job: &Job,
     b: usize,
     places: &mut [u16],
@@ -79,7 +78,7 @@ pub(crate) fn move_job(
     from: usize,
     to: usize,
 ) -> Result<Tally, Refusal>
-    requires { Sound job.now × (b ≤ BYTES) }
+    requires { Sound job.now }
     ensures { outcome_of (answered result) places.new cards.new ≡ moved_by job.now b (held places.old cards.old) (from, to) }
 {
     check_move(job, b, places, cards, from, to)?;

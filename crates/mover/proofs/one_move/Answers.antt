@@ -1,5 +1,4 @@
 use mathlib.Core.Path.{◌∙◌}
-use Rattle.racks.proofs.Caps.{sizes-few}
 use Rattle.racks.proofs.Jobs.{of-sound}
 use Rattle.tables.proofs.Capacities.{of-sizes}
 use Rattle.moves.specs.Moves.{held}
@@ -9,7 +8,7 @@ use Rattle.mover.proofs.one_move.Goals as goal
 pub move_job-requires : goal.move_job-requires
 move_job-requires c =
     let made = rw c.in-Ok.is at c.job_for.ensures in
-    (of-sound _ _ (of-sizes _ _ _ made c.args.places.now c.args.cards.now), sizes-few _ _ made.0)
+    of-sound _ _ (of-sizes _ _ _ made c.args.places.now c.args.cards.now)
 
 pub returns-in-Ok : goal.returns-in-Ok
 returns-in-Ok c = let made = rw c.in-Ok.is at c.job_for.ensures in c.move_job.ensures ∙ moved_by_lem _ _ _ made _ _
