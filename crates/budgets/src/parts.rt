@@ -1,7 +1,6 @@
 // The engine that makes moves, phase by phase, as many as an allowance permits.
-ghost use Rattle.std.specs.Prelude.{◌≡◌, ◌*◌, ◌≤◌, ◌<◌, length, get_or};
+ghost use Rattle.std.specs.Prelude.{◌≡◌, ◌*◌, ◌<◌, length, get_or};
 ghost use Rattle.answers.specs.Answers.{answered};
-ghost use Rattle.racks.specs.Limits.{BYTES};
 ghost use Rattle.racks.specs.Racks.{slots};
 ghost use Rattle.racks.specs.parts.Legal.{Spared};
 ghost use Rattle.racks.specs.Job.{racks_of, SoundSpared};
@@ -122,14 +121,14 @@ pub fn move_cards(
 }
 
 // Budgeted moves, by the job.
-pub(crate) fn budget_job(
+pub fn budget_job(
     job: &Job,
     b: usize,
     places: &mut [u16],
     cards: &mut [u8],
     k: usize,
 ) -> Result<Tally, Refusal>
-    requires { SoundSpared job.now × (b ≤ BYTES) }
+    requires { SoundSpared job.now }
     ensures { outcome_of (answered result) places.new cards.new ≡ budgeted_by job.now b (held places.old cards.old) k }
 {
     let mut racking = [0u8; Job::MAX_SLOTS];

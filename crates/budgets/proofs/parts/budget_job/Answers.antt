@@ -13,7 +13,7 @@ use Rattle.budgets.specs.parts.Budgeted.{budgeted_by}
 use Rattle.budgets.proofs.parts.budget_job.Goals as goal
 
 pub check_cards-requires : goal.check_cards-requires
-check_cards-requires c = (c.requires.0.0, c.requires.1, refl)
+check_cards-requires c = (c.requires.0, refl)
 
 pub returns-in_err-check_cards : goal.returns-in_err-check_cards
 unfolding budgeted_by
@@ -26,7 +26,7 @@ returns-in_err-check_cards c =
 pub move_cards-requires : goal.move_cards-requires
 move_cards-requires c =
     let o = c.in_ok-check_cards.ensures.opened refl in
-    (o.table, c.requires.0.1, o.long)
+    (o.table, c.requires.1, o.long)
 
 pub returns : goal.returns
 unfolding budgeted_by
