@@ -25,11 +25,13 @@ use Rattle.racks.specs.Job.{racks_of, good_job, Sound}
 use Rattle.racks.specs.Numbers.{too_short}
 use Rattle.racks.specs.parts.Legal.{Legal, Spared}
 use Rattle.racks.specs.declared.Job.{Job}
+use Rattle.racks.proofs.Caps.{bytes-some}
 use Rattle.racks.proofs.Geometry.{spare-is, spare-end, end_le}
 use Rattle.racks.proofs.Jobs.{sound-racks}
 use Rattle.racks.proofs.Table.{read-dest}
 use Rattle.racks.proofs.LegalTable.{legal-slot, spare_lt}
 use Rattle.tables.specs.parts.Tables.{OpenCards, refusal_by, cards_number}
+use Rattle.tables.proofs.Tables.{cards-bytes}
 use Rattle.tables.proofs.Refusals.{placeless_by}
 use Rattle.jobwriter.specs.Writing.{numeral_of, numerals_of, file_entry, cap_of, file_numbers, file_for, write_checks, filed}
 use Rattle.jobwriter.specs.parts.Puts.{Short, Put, Roomy, Gives, Writable, write_number, filed_by}
@@ -128,8 +130,9 @@ module _ {job : Job} {b : ℕ} {places cards racking : List ℕ} (o : OpenCards 
   cards-below = omega (arith, mul-le-mul_right b o.table.sound.small, o.long, o.bytes)
 
   -- and there are some, where each rack has a spare
-  pub cards-some : Spared (racks_of job) → 0 < b → 0 < length cards
-  cards-some spared some =
+  pub cards-some : Spared (racks_of job) → cards_number job b places cards ≡ 0 → 0 < length cards
+  cards-some spared z =
+      let some = bytes-some b (cards-bytes job b places cards z) in
       let here = rw suc-mul at (mul-le-mul_right b (spare_lt (racks_of job) spared 0 o.table.sound.some)) in
       omega (arith, here, o.long)
 

@@ -2,7 +2,7 @@
 ghost use Rattle.std.specs.Prelude.{◌≡◌, List, ℕ, ◌+◌, ◌≤◌, ◌<◌, length, get_or};
 ghost use Rattle.std.proofs.lemmas.List.Edits.{sets};
 ghost use Rattle.counting.specs.Lists.{each};
-ghost use Rattle.racks.specs.Limits.{BYTES, SLOTS};
+ghost use Rattle.racks.specs.Limits.{SLOTS};
 ghost use Rattle.racks.specs.Job.{racks_of, Sound, SoundSpared};
 ghost use Rattle.answers.specs.Answers.{size_answered, sized_of};
 ghost use Rattle.jobwriter.specs.Writing.{numeral_of, numerals_of, file_entry, cap_of, file_numbers, file_for};
@@ -89,14 +89,14 @@ fn put_file(job: Job, b: usize, places: &[u16], cards: &[u8], out: &mut [u8])
 }
 
 // Write file, by the job: the length first, then one pass.
-pub(crate) fn write_job(
+pub fn write_job(
     job: &Job,
     b: usize,
     places: &[u16],
     cards: &[u8],
     out: &mut [u8],
 ) -> Result<usize, Refusal>
-    requires { SoundSpared job.now × (0 < b) × (b ≤ BYTES) }
+    requires { SoundSpared job.now }
     ensures { sized_of (size_answered result) out.new ≡ filed_by job.now b places.now cards.now out.old }
 {
     let mut racking = [0u8; Job::MAX_SLOTS];

@@ -1,6 +1,5 @@
 use mathlib.Core.Path.{◌∙◌}
 use Rattle.std.proofs.lemmas.Result.{err_from_is_err_and}
-use Rattle.racks.proofs.Caps.{sizes-few, sizes-some}
 use Rattle.racks.proofs.Jobs.{of-spared}
 use Rattle.tables.proofs.Capacities.{of-sizes}
 use Rattle.jobwriter.proofs.Files.{filed_by_lem, filed-sizes}
@@ -13,7 +12,7 @@ returns-in_err-job c =
     rw (p.1, p.2) (filed-sizes s.caps.now s.b _ c.in_err-job.ensures s.places.now s.cards.now s.out.now)
 
 pub write_job-requires : goal.write_job-requires
-write_job-requires c = (of-spared _ _ (of-sizes _ _ _ c.in_ok-job.ensures c.args.places.now c.args.cards.now), sizes-some _ _ c.in_ok-job.ensures.0, sizes-few _ _ c.in_ok-job.ensures.0)
+write_job-requires c = of-spared _ _ (of-sizes _ _ _ c.in_ok-job.ensures c.args.places.now c.args.cards.now)
 
 pub returns : goal.returns
 returns c = c.write_job.ensures ∙ filed_by_lem _ _ _ c.in_ok-job.ensures _ _ _

@@ -24,10 +24,10 @@ module _ (c : In_ok-check_cards) where
   opened = c.in_ok-check_cards.ensures.opened refl
 
   some : 0 < length c.args.cards.now
-  some = cards-some opened c.requires.0.1 c.requires.1
+  some = cards-some opened c.requires.1 none
 
 pub check_cards-requires : goal.check_cards-requires
-check_cards-requires c = (c.requires.0.0, c.requires.2, refl)
+check_cards-requires c = (c.requires.0, refl)
 
 pub returns-in_err-check_cards : goal.returns-in_err-check_cards
 unfolding filed_by write_number
