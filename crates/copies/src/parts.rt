@@ -73,7 +73,7 @@ pub fn list_counted(
 }
 
 // The copy list, by the job. Once nothing is away, the racking serves as marks.
-pub(crate) fn copy_job(job: &Job, places: &[u16], lent: &mut [u16]) -> Result<Tally, Refusal>
+pub fn copy_job(job: &Job, places: &[u16], lent: &mut [u16]) -> Result<Tally, Refusal>
     requires { Sound job.now }
     ensures { listed_of (answered result) lent.new ≡ copied_by job.now places.now lent.old }
 {

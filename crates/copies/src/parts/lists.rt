@@ -84,9 +84,9 @@ pub fn put_copy(list: &mut [u16], at: usize, from: u16, to: u16)
     list[2 * at + 1] = to;
 }
 
-// Copies are written into a list of numbers, two for each.
+// The target of a copy list: copies are written into a list of numbers, two for each. With it `chains` writes the copies of any chain.
 #[derive(Clone, Copy)]
-struct Numbers;
+pub struct Numbers;
 
 impl Target for Numbers {
     type Item = u16;
