@@ -32,10 +32,11 @@ pub fn lay_card(cards: &mut [u8], hand: &[u8], b: usize, to: usize)
     racks::parts::put(cards, to * b, &hand[..b]);
 }
 
-// Copies are made among cards of b bytes: the card of a slot goes to another too.
+// The target of cards that are brought: copies are made among cards of b bytes, and the card of a slot goes to another too. With it `chains`
+// brings the cards of any chain.
 #[derive(Clone, Copy)]
-struct Cards {
-    b: usize,
+pub struct Cards {
+    pub b: usize,
 }
 
 impl Target for Cards {
