@@ -103,13 +103,13 @@ fn settle_alone(
 }
 
 // The shuffle, by the job. Once nothing is away, the racking serves as marks.
-pub(crate) fn shuffle_job(
+pub fn shuffle_job(
     job: &Job,
     b: usize,
     places: &mut [u16],
     cards: &mut [u8],
 ) -> Result<Tally, Refusal>
-    requires { Sound job.now × (b ≤ BYTES) }
+    requires { Sound job.now }
     ensures { outcome_of (answered result) places.new cards.new ≡ shuffled_by job.now b (held places.old cards.old) }
 {
     let mut racking = [0u8; Job::MAX_SLOTS];

@@ -1,6 +1,5 @@
 use mathlib.Core.Path.{◌∙◌}
 use Rattle.std.proofs.lemmas.Result.{err_from_is_err_and}
-use Rattle.racks.proofs.Caps.{sizes-few}
 use Rattle.racks.proofs.Jobs.{of-sound}
 use Rattle.tables.proofs.Capacities.{of-sizes}
 use Rattle.moves.specs.Moves.{held}
@@ -14,7 +13,7 @@ returns-in_err-job c =
     rw (p.1, p.2) (shuffled-sizes s.caps.now s.b _ c.in_err-job.ensures (held s.places.now s.cards.now))
 
 pub shuffle_job-requires : goal.shuffle_job-requires
-shuffle_job-requires c = (of-sound _ _ (of-sizes _ _ _ c.in_ok-job.ensures c.args.places.now c.args.cards.now), sizes-few _ _ c.in_ok-job.ensures.0)
+shuffle_job-requires c = of-sound _ _ (of-sizes _ _ _ c.in_ok-job.ensures c.args.places.now c.args.cards.now)
 
 pub returns : goal.returns
 returns c = c.shuffle_job.ensures ∙ shuffled_by_lem _ _ _ c.in_ok-job.ensures _
