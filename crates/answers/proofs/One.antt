@@ -6,8 +6,8 @@ use lib.Dec.{eqb}
 use Rattle.counting.specs.Tests.{pick}
 use Rattle.counting.specs.One.{One}
 use Rattle.answers.proofs.Answers.{refuses}
-use Rattle.counting.proofs.One.{one-is, one_by}
-use Rattle.answers.specs.Answers.{Listed, listed_of, Sized, sized_of, SizeAnswer, Refusal, refusal_of, answered, TallyNone, TallyOfMoves, TallyOfCopies, NumberOf, PlaceOf, AnswerNumbered, AnswerRefused, AnswerDone, AnswerGiven}
+use Rattle.counting.proofs.One.{OneToOne, one-is, one_by, read-back}
+use Rattle.answers.specs.Answers.{Listed, listed_of, Sized, sized_of, SizeAnswer, Refusal, refusal_of, refused, answer, no_counts, answered, size_answered, TallyNone, TallyOfMoves, TallyOfCopies, NumberOf, PlaceOf, AnswerNumbered, AnswerRefused, AnswerDone, AnswerGiven}
 use Rattle.answers.specs.declared.Tally.{Tally}
 use Rattle.answers.specs.declared.Refusal as given
 use Rattle.answers.specs.declared.Refusal.TheVariants as case
@@ -98,11 +98,35 @@ told case.FileGroups = refl
 
 -- two refusals of one number and place are one
 pub refusal-one : (e f : given.Refusal) → refusal_of e ≡ refusal_of f → e ≡ f
-refusal-one e f is = sym (told e) ∙ ap case_of is ∙ told f
+refusal-one = read-back refusal_of case_of told
+
+-- the number and place that an answer has
+abbrev pub heard : Answer → Refusal
+heard a = record { number = a.number; place = a.place }
+
+-- what has the refusal of each result, and all of what is done, tells all of a result
+module _ {A B : Type 0} (tell : Result A given.Refusal → B) (hear : B → Refusal) (is : (r : Result A given.Refusal) → hear (tell r) ≡ refused r) where
+  alike : (r s : Result A given.Refusal) → tell r ≡ tell s → refused r ≡ refused s
+  alike r s e = sym (is r) ∙ ap hear e ∙ is s
+
+  pub result-one : ((x y : A) → tell (Ok x) ≡ tell (Ok y) → x ≡ y) → OneToOne tell
+  result-one done (Ok x) (Ok y) e = ap Ok (done x y e)
+  result-one done (Ok x) (Err g) e = absurd (refuses g (sym (ap (λ (z : Refusal). z.number) (alike (Ok x) (Err g) e))))
+  result-one done (Err f) (Ok y) e = absurd (refuses f (ap (λ (z : Refusal). z.number) (alike (Err f) (Ok y) e)))
+  result-one done (Err f) (Err g) e = ap Err (refusal-one f g (alike (Err f) (Err g) e))
 
 -- two results that are told alike are one: what a contract says of the answer it says of the result
-pub answered-one : (r s : Result Tally given.Refusal) → answered r ≡ answered s → r ≡ s
-answered-one (Ok t) (Ok u) is = ap Ok (ap (λ (a : Answer). a.tally) is)
-answered-one (Ok t) (Err f) is = absurd (refuses f (sym (ap (λ (a : Answer). a.number) is)))
-answered-one (Err e) (Ok u) is = absurd (refuses e (ap (λ (a : Answer). a.number) is))
-answered-one (Err e) (Err f) is = ap Err (refusal-one e f (ap (λ (a : Answer). record { number = a.number; place = a.place }) is))
+pub answered-one : OneToOne answered
+answered-one = result-one answered heard (λ r. refl) (λ t u e. ap (λ (a : Answer). a.tally) e)
+
+-- the same of a check, which has no counts
+pub checked-one : OneToOne (λ (r : Result (Unit {0}) given.Refusal). answer (refused r) no_counts)
+checked-one = result-one (λ (r : Result (Unit {0}) given.Refusal). answer (refused r) no_counts) heard (λ r. refl) (λ x y e. refl)
+
+-- and of a size
+size_heard : (r : Result ℕ given.Refusal) → heard (size_answered r).answer ≡ refused r
+size_heard (Ok size) = refl
+size_heard (Err e) = refl
+
+pub size_answered-one : OneToOne size_answered
+size_answered-one = result-one size_answered (λ (a : SizeAnswer). heard a.answer) size_heard (λ m n e. ap (λ (a : SizeAnswer). a.size) e)

@@ -16,10 +16,12 @@ use Rattle.numerals.specs.declared.Numeral.{Numeral}
 use Rattle.numerals.proofs.Groups.{next-some}
 use Rattle.numerals.proofs.Numerals.{form-place, bare-place}
 use Rattle.parsing.specs.File.{Read}
-use Rattle.parsing.specs.Answers.{FileAnswer}
+use Rattle.parsing.specs.Answers.{FileAnswer, file_answered}
+use Rattle.parsing.proofs.One.{file_answered-one}
 use Rattle.jobfile.specs.Answers.{read_of, ReadFile, RestOf, CardBytes}
-use Rattle.jobfile.specs.Reading.{at_after, Stepped, New, Next, JobFile, JobRead, job_seen}
+use Rattle.jobfile.specs.Reading.{at_after, Stepped, New, Next, JobFile, job_told, JobRead, job_seen, result_seen, given_seen}
 use Rattle.jobfile.specs.declared.Reader.{Reader}
+use Rattle.jobfile.specs.declared.JobFile as code
 
 -- a file read into two lent lists
 pub filed-one : (file : List ℕ) {allowed : Read → Type 0} → One allowed
@@ -87,3 +89,26 @@ read_job-one reader caps places (x, c, p) (y, d, q) a b =
     let e6 = a.caps-are ∙ sym b.caps-are in
     let e7 = a.places-are ∙ sym b.places-are in
     λ i. (e0 i, e1 i, e2 i, e3 i, e4 i, e5 i, e6 i, e7 i)
+
+-- what is told of a job, as of a file that is read, and its card bytes
+found_of : JobFile → FileAnswer × List ℕ
+found_of j = (record { answer = j.answer; racks = j.racks; bytes = j.bytes; slots = j.slots; start = j.start }, j.cards)
+
+found-is : (r : Result code.JobFile given.Refusal) → found_of (job_told r) ≡ (file_answered (result_seen r).0, (result_seen r).1)
+unfolding found_of
+found-is (Ok job) = refl
+found-is (Err e) = refl
+
+-- two results that are told alike are seen as equal
+pub job_told-seen : (r s : Result code.JobFile given.Refusal) → job_told r ≡ job_told s → result_seen r ≡ result_seen s
+job_told-seen r s e =
+    let f = sym (found-is r) ∙ ap found_of e ∙ found-is s in
+    let g = file_answered-one (result_seen r).0 (result_seen s).0 (ap (λ (x : FileAnswer × List ℕ). x.0) f) in
+    λ i. (g i, (f i).1)
+
+pub given-read_job-one : (reader : Reader) (caps places : List ℕ)
+    → OneSeen given_seen (λ ((r, caps', places') : Result code.JobFile given.Refusal × List ℕ × List ℕ). JobRead reader caps places (job_told r) caps' places')
+given-read_job-one reader caps places (r, c, p) (s, d, q) a b =
+    let e = read_job-one reader caps places (job_told r, c, p) (job_told s, d, q) a b in
+    let f = job_told-seen r s (λ i. record { answer = (e i).0; racks = (e i).1; bytes = (e i).2; slots = (e i).3; start = (e i).4; cards = (e i).5 }) in
+    λ i. ((f i).0, (f i).1, (e i).6, (e i).7)

@@ -6,6 +6,7 @@ use Rattle.answers.specs.declared.Refusal as given
 use Rattle.answers.specs.declared.Answer.{Answer}
 use Rattle.numerals.specs.Numeral.{numeral}
 use Rattle.parsing.specs.File.{read}
+use Rattle.parsing.specs.declared.FileJob.{FileJob}
 use Rattle.numerals.specs.Numeral.{got_of}
 use Rattle.numerals.specs.declared.Numeral.{Numeral}
 use Rattle.jobfile.specs.declared.Reader.{Reader}
@@ -65,3 +66,12 @@ New file r = (r.file ≡ file) × (r.at ≡ 0)
 -- what is seen of a job that is read: the part of the file that its cards are is known by its bytes
 abbrev pub job_seen : JobFile × List ℕ × List ℕ → Answer × ℕ × ℕ × ℕ × ℕ × List ℕ × List ℕ × List ℕ
 job_seen (job, caps, places) = (job.answer, job.racks, job.bytes, job.slots, job.start, job.cards, caps, places)
+
+-- what is seen of the result itself: N, B, S and where the card bytes begin, or why it is refused, and the card bytes
+abbrev pub result_seen : Result code.JobFile given.Refusal → Result FileJob given.Refusal × List ℕ
+result_seen (Ok job) = (Ok (record { racks = job.racks; bytes = job.bytes; slots = job.slots; start = job.start }), job.cards.now)
+result_seen (Err e) = (Err e, [])
+
+-- and the two lent lists at exit
+abbrev pub given_seen : Result code.JobFile given.Refusal × List ℕ × List ℕ → Result FileJob given.Refusal × List ℕ × List ℕ × List ℕ
+given_seen (r, caps, places) = ((result_seen r).0, (result_seen r).1, caps, places)

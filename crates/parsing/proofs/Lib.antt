@@ -4,3 +4,4 @@ pub mod Fronts
 pub mod Cards
 pub mod Files
 pub mod Legal
+pub mod One
