@@ -13,7 +13,7 @@ use Rattle.parsing.specs.declared.FileJob.{FileJob}
 use Rattle.jobfile.specs.Answers.{cards_of, read_of}
 use Rattle.jobfile.specs.Reading.{ahead, JobFile, job_told, JobRead}
 use Rattle.jobfile.specs.declared.Reader.{Reader}
-use Rattle.jobfile.proofs.Cards.{cards-none, cards-done}
+use Rattle.jobfile.proofs.Cards.{cards-none}
 
 -- what is told of an outcome and of the card bytes
 abbrev told : FileAnswer → List ℕ → JobFile
@@ -40,7 +40,7 @@ module _ (reader : Reader) (file caps places caps' places' : List ℕ) (is : fil
   pub job-refused : (e : given.Refusal) → read_of (refused_file (refusal_of e)) caps' places' file ≡ read file caps places → JobRead reader caps places (job_told (Err e)) caps' places'
   job-refused e outcome = job_read (refused_file (refusal_of e)) [] outcome (cards-none file e)
 
-  -- done: what lies behind the start
-  pub job-done : (found : FileJob) (cards : Bor (List ℕ)) → read_of (file_answered (Ok found)) caps' places' file ≡ read file caps places → cards.now ≡ drop found.start file
+  -- done: the card bytes
+  pub job-done : (found : FileJob) (cards : Bor (List ℕ)) → read_of (file_answered (Ok found)) caps' places' file ≡ read file caps places → cards.now ≡ cards_of (file_answered (Ok found)) file
       → JobRead reader caps places (job_told (Ok (record { racks = found.racks; bytes = found.bytes; slots = found.slots; start = found.start; cards = cards }))) caps' places'
-  job-done found cards outcome c = job_read (file_answered (Ok found)) cards.now outcome (c ∙ cards-done file found)
+  job-done found cards outcome c = job_read (file_answered (Ok found)) cards.now outcome c

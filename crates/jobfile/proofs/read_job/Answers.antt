@@ -8,4 +8,5 @@ returns-in_err-found c =
     rw (p.1, p.2) (job-refused c.args.r _ c.args.caps.now c.args.places.now _ _ c.rest_of-file.ensures _ c.in_err-found.ensures)
 
 pub returns : goal.returns
-returns c = job-done c.args.r _ c.args.caps.now c.args.places.now _ _ c.rest_of-file.ensures _ c.rest_of.result c.in_ok-found.ensures c.rest_of.ensures
+returns c =
+    job-done c.args.r _ c.args.caps.now c.args.places.now _ _ c.rest_of-file.ensures _ c.card_bytes-cards.result c.in_ok-found.ensures (rw c.in_ok-found.was at c.card_bytes-cards.ensures)
