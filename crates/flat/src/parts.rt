@@ -10,12 +10,11 @@ use answers::{Refusal, Tally};
 use parsing::FileJob;
 use slots::{Kind, Slot, State};
 
-// A call that counts: the number, its place and the counts.
-impl From<Result<Tally, Refusal>> for Answer {
-    ghost from_gives = { λ given r. answer_of r ≡ answered given };
+// The number, its place and the counts, whatever they are.
+impl From<answers::Answer> for Answer {
+    ghost from_gives = { λ answer r. answer_of r ≡ answer };
 
-    fn from(given: Result<Tally, Refusal>) -> Answer {
-        let answer = answers::Answer::of(given);
+    fn from(answer: answers::Answer) -> Answer {
         Answer {
             number: answer.number as usize,
             place: answer.place,
@@ -23,6 +22,15 @@ impl From<Result<Tally, Refusal>> for Answer {
             moves: answer.tally.moves,
             copies: answer.tally.copies,
         }
+    }
+}
+
+// A call that counts: the number, its place and the counts.
+impl From<Result<Tally, Refusal>> for Answer {
+    ghost from_gives = { λ given r. answer_of r ≡ answered given };
+
+    fn from(given: Result<Tally, Refusal>) -> Answer {
+        Answer::from(answers::Answer::of(given))
     }
 }
 
