@@ -1,6 +1,5 @@
 use mathlib.Core.Path.{◌∙◌}
 use Rattle.std.proofs.lemmas.Result.{err_from_is_err_and}
-use Rattle.racks.proofs.Caps.{sizes-few}
 use Rattle.racks.proofs.Jobs.{of-spared}
 use Rattle.tables.proofs.Capacities.{of-sizes}
 use Rattle.moves.specs.Moves.{held}
@@ -14,7 +13,7 @@ returns-in_err-job c =
     rw (p.1, p.2) (ran-sizes s.caps.now s.b _ c.in_err-job.ensures (held s.places.now s.cards.now))
 
 pub run_job-requires : goal.run_job-requires
-run_job-requires c = (of-spared _ _ (of-sizes _ _ _ c.in_ok-job.ensures c.args.places.now c.args.cards.now), sizes-few _ _ c.in_ok-job.ensures.0)
+run_job-requires c = of-spared _ _ (of-sizes _ _ _ c.in_ok-job.ensures c.args.places.now c.args.cards.now)
 
 pub returns : goal.returns
 returns c = c.run_job.ensures ∙ ran_by_lem _ _ _ c.in_ok-job.ensures _

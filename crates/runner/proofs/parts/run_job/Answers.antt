@@ -11,7 +11,7 @@ use Rattle.runner.specs.parts.Ran.{ran_by}
 use Rattle.runner.proofs.parts.run_job.Goals as goal
 
 pub check_cards-requires : goal.check_cards-requires
-check_cards-requires c = (c.requires.0.0, c.requires.1, refl)
+check_cards-requires c = (c.requires.0, refl)
 
 pub returns-in_err-check_cards : goal.returns-in_err-check_cards
 unfolding ran_by
@@ -24,7 +24,7 @@ returns-in_err-check_cards c =
 pub run_cards-requires : goal.run_cards-requires
 run_cards-requires c =
     let o = c.in_ok-check_cards.ensures.opened refl in
-    (o.table, c.requires.0.1, o.long, o.bytes)
+    (o.table, c.requires.1, o.long, o.bytes)
 
 pub returns : goal.returns
 unfolding ran_by
