@@ -58,7 +58,7 @@ pub fn write_plan(job: Job, places: &[u16], lent: &mut [u16], most: usize) -> us
 }
 
 // The phase plan, by the job.
-pub(crate) fn plan_job(job: &Job, places: &[u16], lent: &mut [u16]) -> Result<Tally, Refusal>
+pub fn plan_job(job: &Job, places: &[u16], lent: &mut [u16]) -> Result<Tally, Refusal>
     requires { Sound job.now }
     ensures { listed_of (answered result) lent.new ≡ planned_by job.now places.now lent.old }
 {

@@ -55,7 +55,7 @@ pub fn state_of(job: Job, places: &[u16], g: usize) -> State
 }
 
 // The slot question, by the job.
-pub(crate) fn ask_job(job: &Job, places: &[u16], g: usize) -> Result<Slot, Refusal>
+pub fn ask_job(job: &Job, places: &[u16], g: usize) -> Result<Slot, Refusal>
     requires { Sound job.now }
     ensures { slot_answered result ≡ asked_by job.now places.now g }
 {
