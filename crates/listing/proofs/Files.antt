@@ -22,6 +22,7 @@ use Rattle.counting.proofs.Stores.{take-front}
 use Rattle.tables.proofs.Tables.{cards_pass}
 use Rattle.parsing.specs.File.{read_m, read_entries, file_racks, file_bytes, file_places, file_cards, file_checks}
 use Rattle.parsing.specs.Answers.{FileAnswer, done_file, file_answered}
+use Rattle.jobfile.specs.Answers.{cards_of}
 use Rattle.parsing.specs.parts.Parsing.{Parsed}
 use Rattle.parsing.specs.declared.FileJob.{FileJob}
 use Rattle.parsing.proofs.Legal.{file-legal, file-small}
@@ -119,19 +120,20 @@ module _ (file : List ℕ) where
       bytes-are : found.bytes ≡ file_bytes file
       bytes-are = ap (λ (x : FileAnswer). x.bytes) done-is
 
-      cards-are : drop found.start file ≡ file_cards file
-      unfolding file_cards
+      cards-are : cards_of (file_answered (Ok found)) file ≡ file_cards file
+      unfolding cards_of file_cards
       cards-are = ap (λ (x : FileAnswer). drop x.start file) done-is
 
       -- which passes 1 to 6
-      pub job-legal : first (card_checks (of_caps (take found.racks caps)) found.bytes (take found.slots places) (drop found.start file)) ≡ 0
+      pub job-legal : first (card_checks (of_caps (take found.racks caps)) found.bytes (take found.slots places) (cards_of (file_answered (Ok found)) file)) ≡ 0
       job-legal = rw (cards-are, caps-are, bytes-are, p.places-are) (file-legal file no_check)
 
       -- with no more card bytes than the file has
-      pub job-small : length (drop found.start file) ≤ FILE
-      job-small = omega (arith, length-drop found.start file)
+      pub job-small : length (cards_of (file_answered (Ok found)) file) ≤ FILE
+      unfolding file_cards
+      job-small = omega (arith, ap length cards-are, length-drop (read_entries file).next file)
 
       -- whose run is the text
-      pub listing-run : listing file ≡ run_text (of_caps (take found.racks caps)) found.bytes (held (take found.slots places) (drop found.start file))
+      pub listing-run : listing file ≡ run_text (of_caps (take found.racks caps)) found.bytes (held (take found.slots places) (cards_of (file_answered (Ok found)) file))
       unfolding file_held
       listing-run = rw (cards-are, caps-are, bytes-are, p.places-are) (by-run (passed small ∙ no_check))

@@ -19,13 +19,14 @@ pub fn put_listing(out: &mut [u8], file: &[u8]) -> usize
     }
     let mut caps = [0u16; Job::MAX_RACKS];
     let mut places = [0u16; Job::MAX_SLOTS];
-    match parsing::parts::parse(file, &mut caps, &mut places) {
-        Ok(found) => jobs::put_job(
+    let found = parsing::parts::parse(file, &mut caps, &mut places);
+    match found {
+        Ok(job) => jobs::put_job(
             out,
-            &caps[..found.racks],
-            found.bytes,
-            &mut places[..found.slots],
-            jobfile::rest_of(file, found.start),
+            &caps[..job.racks],
+            job.bytes,
+            &mut places[..job.slots],
+            jobfile::card_bytes(file, found),
         ),
         Err(refusal) => lines::put_refused(out, 0, refusal.number()),
     }

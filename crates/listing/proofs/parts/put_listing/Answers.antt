@@ -15,7 +15,7 @@ pub put_job-requires : goal.put_job-requires
 put_job-requires c =
     let small : length c.args.file.now ≤ FILE = omega (arith, c.if-file-gt-FILE.false) in
     let p = c.in-Ok.ensures in
-    let b = c.rest_of.ensures in (
+    let b = c.card_bytes.ensures in (
       rw b (job-legal c.args.file.now small p),
       rw b (job-small c.args.file.now small p),
       rw b (rw (listing-run c.args.file.now small p) at (listing-room c.args.file.now c.args.out.now c.requires)),
@@ -28,7 +28,7 @@ put_refused-requires-in-Err c =
 
 pub returns-in-Ok : goal.returns-in-Ok
 returns-in-Ok c =
-    rw (listing-run c.args.file.now (omega (arith, c.if-file-gt-FILE.false)) c.in-Ok.ensures) (rw c.rest_of.ensures at c.put_job.ensures)
+    rw (listing-run c.args.file.now (omega (arith, c.if-file-gt-FILE.false)) c.in-Ok.ensures) (rw c.card_bytes.ensures at c.put_job.ensures)
 
 pub returns-in-Err : goal.returns-in-Err
 returns-in-Err c =
