@@ -32,12 +32,7 @@ pub fn run_cards(
 }
 
 // The whole run, by the job.
-pub fn run_job(
-    job: &Job,
-    b: usize,
-    places: &mut [u16],
-    cards: &mut [u8],
-) -> Result<Tally, Refusal>
+pub fn run_job(job: &Job, b: usize, places: &mut [u16], cards: &mut [u8]) -> Result<Tally, Refusal>
     requires { SoundSpared job.now }
     ensures { outcome_of (answered result) places.new cards.new ≡ ran_by job.now b (held places.old cards.old) }
 {
