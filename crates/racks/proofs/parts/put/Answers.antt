@@ -1,8 +1,5 @@
 -- `racks::parts::put` meets its contract. Assumes nothing.
-use mathlib.Core.Path.{◌≡◌}
-use Prim.Native.Nat.{◌+◌}
 use lib.ListN.{length-set}
-use lib.Seq.{sets}
 use native.Mathlib.Omega.{arith}
 use Rattle.racks.proofs.Puts.{sets-more}
 use Rattle.racks.proofs.parts.put.Goals as goal
