@@ -1,22 +1,24 @@
 -- One outcome for each public call: each contract's own layer proves it, and the numbers that C is given tell no less. Assumes nothing.
-use mathlib.Core.Path.{refl}
+use mathlib.Core.Path.{refl, ap}
 use mathlib.Core.List.{List}
 use Prim.Native.Nat.{ℕ}
 use Rattle.counting.specs.One.{One}
-use Rattle.counting.proofs.One.{one-is, one_by}
+use Rattle.counting.proofs.One.{OneToOne, one_told, one-is, one_by}
 use Rattle.answers.specs.declared.Answer.{Answer}
-use Rattle.answers.proofs.One.{tally-none-one, tally_of-moves-one, tally_of-copies-one, number_of-one, place_of-one, answer-numbered-one, answer-refused-one, answer-done-one, answer-given-one}
+use Rattle.answers.proofs.One.{answered-one, checked-one, size_answered-one, tally-none-one, tally_of-moves-one, tally_of-copies-one, number_of-one, place_of-one, answer-numbered-one, answer-refused-one, answer-done-one, answer-given-one}
 use Rattle.racks.proofs.One.{job_of-one, job_of_cards-one}
 use Rattle.tables.proofs.One.{check-table-one}
-use Rattle.slots.proofs.One.{slot_question-one}
+use Rattle.slots.specs.Told.{slot_answered}
+use Rattle.slots.proofs.One.{slot_question-one, slot_answered-one}
 use Rattle.plans.proofs.One.{phase-plan-one}
 use Rattle.moves.proofs.One.{one-move-one, budgeted-moves-one}
 use Rattle.factors.proofs.One.{copy-list-one}
 use Rattle.shuffle.proofs.One.{shuffle-cards-one}
 use Rattle.runs.proofs.One.{whole-run-one}
-use Rattle.parsing.specs.Answers.{FileAnswer}
-use Rattle.jobfile.proofs.One.{read-file-one, rest_of-one, card-bytes-one, step-at-one, new-one, next_one, read_job-one}
-use Rattle.answers.specs.Answers.{SizeAnswer}
+use Rattle.parsing.specs.Answers.{FileAnswer, file_answered}
+use Rattle.parsing.proofs.One.{file_answered-one}
+use Rattle.jobfile.proofs.One.{read-file-one, rest_of-one, card-bytes-one, step-at-one, new-one, next_one, read_job-one, given-read_job-one}
+use Rattle.answers.specs.Answers.{answered, SizeAnswer, size_answered}
 use Rattle.jobwriter.proofs.One.{write-file-one}
 use Rattle.listing.proofs.One.{list_job-one}
 use Rattle.flat.specs.Flat.{answer_of, file_of, size_of}
@@ -75,6 +77,15 @@ c-sized =
       y.1,
     )) (λ x. refl)
 
+-- what the code gives, beside a lent list, and beside two
+given-listed : {A B : Type 0} (f : A → B) → OneToOne f → {allowed : B × List ℕ → Type 0} → One allowed → One (λ ((r, lent) : A × List ℕ). allowed (f r, lent))
+given-listed {A} {B} f same =
+    one_told (λ (x : A × List ℕ). (f x.0, x.1)) (λ x y e. let r = same x.0 y.0 (ap (λ (z : B × List ℕ). z.0) e) in λ i. (r i, (e i).1))
+
+given-both : {A B : Type 0} (f : A → B) → OneToOne f → {allowed : B × List ℕ × List ℕ → Type 0} → One allowed → One (λ ((r, l, m) : A × List ℕ × List ℕ). allowed (f r, l, m))
+given-both {A} {B} f same =
+    one_told (λ (x : A × List ℕ × List ℕ). (f x.0, x.1, x.2)) (λ x y e. let r = same x.0 y.0 (ap (λ (z : B × List ℕ × List ℕ). z.0) e) in λ i. (r i, (e i).1, (e i).2))
+
 pub one-outcome : OneOutcome
 one-outcome =
     record {
@@ -106,6 +117,19 @@ one-outcome =
       answer-refused = answer-refused-one;
       answer_of_lem = answer-given-one;
       answer-done = answer-done-one;
+      given-check-table = λ caps places. one_told _ checked-one (check-table-one caps places);
+      given-slot_question = λ caps places g. one_told slot_answered slot_answered-one (slot_question-one caps places g);
+      given-phase-plan = λ caps places lent. given-listed answered answered-one (phase-plan-one caps places lent);
+      given-one-move = λ caps b places cards from to. given-both answered answered-one (one-move-one caps b places cards from to);
+      given-budgeted-moves = λ caps b places cards k. given-both answered answered-one (budgeted-moves-one caps b places cards k);
+      given-copy-list = λ caps places lent. given-listed answered answered-one (copy-list-one caps places lent);
+      given-shuffle-cards = λ caps b places cards. given-both answered answered-one (shuffle-cards-one caps b places cards);
+      given-whole-run = λ caps b places cards. given-both answered answered-one (whole-run-one caps b places cards);
+      given-read-file = λ file caps places. given-both file_answered file_answered-one (read-file-one file caps places);
+      given-write-file = λ caps b places cards lent. given-listed size_answered size_answered-one (write-file-one caps b places cards lent);
+      given-list_job = λ file lent. given-listed size_answered size_answered-one (list_job-one file lent);
+      given-card-bytes = λ file found. card-bytes-one file (file_answered found);
+      given-read_job = given-read_job-one;
       c_check-table = λ caps places. c-same (check-table-one caps places);
       c-slot_question = λ caps places g. one-is _;
       c-phase-plan = λ caps places lent. c-listed (phase-plan-one caps places lent);

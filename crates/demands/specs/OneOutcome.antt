@@ -4,12 +4,14 @@ use Rattle.std.specs.Prelude.{List, ℕ, Result}
 use Rattle.std.specs.Borrow.{Bor}
 use Rattle.counting.specs.One.{One, OneSeen}
 use Rattle.racks.specs.Job.{JobOf, JobOfCards}
-use Rattle.answers.specs.Answers.{TallyNone, TallyOfMoves, TallyOfCopies, NumberOf, PlaceOf, AnswerNumbered, AnswerRefused, AnswerDone, AnswerGiven}
+use Rattle.answers.specs.Answers.{refused, answer, no_counts, answered, size_answered, TallyNone, TallyOfMoves, TallyOfCopies, NumberOf, PlaceOf, AnswerNumbered, AnswerRefused, AnswerDone, AnswerGiven}
 use Rattle.answers.specs.declared.Tally.{Tally}
 use Rattle.answers.specs.declared.Refusal as given
 use Rattle.answers.specs.declared.Answer.{Answer}
 use Rattle.tables.specs.Check.{CheckTable}
 use Rattle.slots.specs.Slots.{SlotQuestion}
+use Rattle.slots.specs.Told.{slot_answered}
+use Rattle.slots.specs.declared.Slot.{Slot}
 use Rattle.plans.specs.Plan.{PhasePlan}
 use Rattle.moves.specs.Moves.{OneMove, held, outcome_of}
 use Rattle.moves.specs.Phases.{BudgetedMoves}
@@ -18,8 +20,10 @@ use Rattle.shuffle.specs.Shuffle.{ShuffleCards}
 use Rattle.runs.specs.Run.{WholeRun}
 use Rattle.jobfile.specs.Answers.{ReadFile, RestOf, CardBytes}
 use Rattle.numerals.specs.declared.Numeral.{Numeral}
-use Rattle.parsing.specs.Answers.{FileAnswer}
-use Rattle.jobfile.specs.Reading.{Stepped, New, Next, JobRead, job_seen}
+use Rattle.parsing.specs.Answers.{FileAnswer, file_answered}
+use Rattle.parsing.specs.declared.FileJob.{FileJob}
+use Rattle.jobfile.specs.Reading.{Stepped, New, Next, job_told, JobRead, job_seen, given_seen}
+use Rattle.jobfile.specs.declared.JobFile as job
 use Rattle.jobfile.specs.declared.Reader.{Reader}
 use Rattle.jobfile.specs.Reading.{JobFile}
 use Rattle.jobwriter.specs.Writing.{WriteFile}
@@ -69,6 +73,30 @@ pub record OneOutcome : Type 0 where
   pub answer-refused : (refusal : given.Refusal) → One (AnswerRefused refusal)
   pub answer-done : (tally : Tally) → One (AnswerDone tally)
   pub answer_of_lem : (r : Result Tally given.Refusal) → One (AnswerGiven r)
+  -- what the code gives: the same, of the result itself, and not only of what it tells
+  pub given-check-table : (caps places : List ℕ) → One (λ (r : Result (Unit {0}) given.Refusal). CheckTable caps places (answer (refused r) no_counts))
+  pub given-slot_question : (caps places : List ℕ) (g : ℕ) → One (λ (r : Result Slot given.Refusal). SlotQuestion caps places g (slot_answered r))
+  pub given-phase-plan : (caps places lent : List ℕ)
+      → One (λ ((r, lent') : Result Tally given.Refusal × List ℕ). PhasePlan caps places lent (answered r) lent')
+  pub given-one-move : (caps : List ℕ) (b : ℕ) (places cards : List ℕ) (from to : ℕ)
+      → One (λ ((r, places', cards') : Result Tally given.Refusal × List ℕ × List ℕ). OneMove caps b (held places cards) (from, to) (outcome_of (answered r) places' cards'))
+  pub given-budgeted-moves : (caps : List ℕ) (b : ℕ) (places cards : List ℕ) (k : ℕ)
+      → One (λ ((r, places', cards') : Result Tally given.Refusal × List ℕ × List ℕ). BudgetedMoves caps b (held places cards) k (outcome_of (answered r) places' cards'))
+  pub given-copy-list : (caps places lent : List ℕ)
+      → One (λ ((r, lent') : Result Tally given.Refusal × List ℕ). CopyList caps places lent (answered r) lent')
+  pub given-shuffle-cards : (caps : List ℕ) (b : ℕ) (places cards : List ℕ)
+      → One (λ ((r, places', cards') : Result Tally given.Refusal × List ℕ × List ℕ). ShuffleCards caps b (held places cards) (outcome_of (answered r) places' cards'))
+  pub given-whole-run : (caps : List ℕ) (b : ℕ) (places cards : List ℕ)
+      → One (λ ((r, places', cards') : Result Tally given.Refusal × List ℕ × List ℕ). WholeRun caps b (held places cards) (outcome_of (answered r) places' cards'))
+  pub given-read-file : (file caps places : List ℕ)
+      → One (λ ((r, caps', places') : Result FileJob given.Refusal × List ℕ × List ℕ). ReadFile file caps places (file_answered r) caps' places')
+  pub given-write-file : (caps : List ℕ) (b : ℕ) (places cards lent : List ℕ)
+      → One (λ ((r, lent') : Result ℕ given.Refusal × List ℕ). WriteFile caps b places cards lent (size_answered r) lent')
+  pub given-list_job : (file lent : List ℕ) → One (λ ((r, lent') : Result ℕ given.Refusal × List ℕ). ListJob file lent (size_answered r) lent')
+  pub given-card-bytes : (file : List ℕ) (found : Result FileJob given.Refusal)
+      → OneSeen (λ x. x.now) (λ (r : Bor (List ℕ)). CardBytes file (file_answered found) r.now)
+  pub given-read_job : (reader : Reader) (caps places : List ℕ)
+      → OneSeen given_seen (λ ((r, caps', places') : Result job.JobFile given.Refusal × List ℕ × List ℕ). JobRead reader caps places (job_told r) caps' places')
   -- the calls from C: the same, of the numbers that C is given
   pub c_check-table : (caps places : List ℕ) → One (λ (r : c.Answer). CheckTable caps places (answer_of r))
   pub c-slot_question : (caps places : List ℕ) (g : ℕ) → One (SlotNumbers caps places g)
