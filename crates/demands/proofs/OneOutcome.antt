@@ -3,7 +3,7 @@ use mathlib.Core.Path.{refl, ap}
 use mathlib.Core.List.{List}
 use Prim.Native.Nat.{ℕ}
 use Rattle.counting.specs.One.{One}
-use Rattle.counting.proofs.One.{OneToOne, one_told, one-is, one_by}
+use Rattle.counting.proofs.One.{OneToOne, one_told, one-is, read-back}
 use Rattle.answers.specs.declared.Answer.{Answer}
 use Rattle.answers.proofs.One.{answered-one, checked-one, size_answered-one, tally-none-one, tally_of-moves-one, tally_of-copies-one, number_of-one, place_of-one, answer-numbered-one, answer-refused-one, answer-done-one, answer-given-one}
 use Rattle.racks.proofs.One.{job_of-one, job_of_cards-one}
@@ -27,64 +27,61 @@ use Rattle.flat.specs.declared.FileAnswer as c-file
 use Rattle.flat.specs.declared.SizeAnswer as c-size
 use Rattle.demands.specs.OneOutcome.{OneOutcome}
 
+-- what f tells whole, beside a lent list, and beside two
+beside : {A B : Type 0} (f : A → B) → OneToOne f → {allowed : B × List ℕ → Type 0} → One allowed → One (λ ((r, lent) : A × List ℕ). allowed (f r, lent))
+beside {A} {B} f same =
+    one_told (λ (x : A × List ℕ). (f x.0, x.1)) (λ x y e. let r = same x.0 y.0 (ap (λ (z : B × List ℕ). z.0) e) in λ i. (r i, (e i).1))
+
+beside_two : {A B : Type 0} (f : A → B) → OneToOne f → {allowed : B × List ℕ × List ℕ → Type 0} → One allowed → One (λ ((r, l, m) : A × List ℕ × List ℕ). allowed (f r, l, m))
+beside_two {A} {B} f same =
+    one_told (λ (x : A × List ℕ × List ℕ). (f x.0, x.1, x.2)) (λ x y e. let r = same x.0 y.0 (ap (λ (z : B × List ℕ × List ℕ). z.0) e) in λ i. (r i, (e i).1, (e i).2))
+
 -- the numbers that C is given, read back from an answer
 abbrev plain : Answer → c.Answer
 plain a = record { number = a.number; place = a.place; phases = a.tally.phases; moves = a.tally.moves; copies = a.tally.copies }
 
+c-plain : OneToOne answer_of
+c-plain = read-back answer_of plain (λ x. refl)
+
 c-same : {allowed : Answer → Type 0} → One allowed → One (λ (r : c.Answer). allowed (answer_of r))
-c-same = one_by answer_of plain (λ x. refl)
+c-same = one_told answer_of c-plain
 
 -- with a lent list, and with the table and the cards
 c-listed : {allowed : Answer × List ℕ → Type 0} → One allowed → One (λ ((r, lent) : c.Answer × List ℕ). allowed (answer_of r, lent))
-c-listed = one_by (λ (x : c.Answer × List ℕ). (answer_of x.0, x.1)) (λ (y : Answer × List ℕ). (plain y.0, y.1)) (λ x. refl)
+c-listed = beside answer_of c-plain
 
 c_carded : {allowed : Answer × List ℕ × List ℕ → Type 0} → One allowed → One (λ ((r, places, cards) : c.Answer × List ℕ × List ℕ). allowed (answer_of r, places, cards))
-c_carded =
-    one_by (λ (x : c.Answer × List ℕ × List ℕ). (answer_of x.0, x.1, x.2)) (λ (y : Answer × List ℕ × List ℕ). (plain y.0, y.1, y.2)) (λ x. refl)
+c_carded = beside_two answer_of c-plain
 
 -- a file read, and a text
 c-filed : {allowed : FileAnswer × List ℕ × List ℕ → Type 0} → One allowed → One (λ ((r, caps, places) : c-file.FileAnswer × List ℕ × List ℕ). allowed (file_of r, caps, places))
 c-filed =
-    one_by (λ (x : c-file.FileAnswer × List ℕ × List ℕ). (file_of x.0, x.1, x.2))
-    (λ (y : FileAnswer × List ℕ × List ℕ). (
-      record {
-        number = y.0.answer.number;
-        place = y.0.answer.place;
-        phases = y.0.answer.tally.phases;
-        moves = y.0.answer.tally.moves;
-        copies = y.0.answer.tally.copies;
-        racks = y.0.racks;
-        bytes = y.0.bytes;
-        slots = y.0.slots;
-        start = y.0.start;
-      },
-      y.1,
-      y.2,
-    )) (λ x. refl)
+    beside_two file_of
+    (read-back file_of
+    (λ (y : FileAnswer). record {
+      number = y.answer.number;
+      place = y.answer.place;
+      phases = y.answer.tally.phases;
+      moves = y.answer.tally.moves;
+      copies = y.answer.tally.copies;
+      racks = y.racks;
+      bytes = y.bytes;
+      slots = y.slots;
+      start = y.start;
+    }) (λ x. refl))
 
 c-sized : {allowed : SizeAnswer × List ℕ → Type 0} → One allowed → One (λ ((r, lent) : c-size.SizeAnswer × List ℕ). allowed (size_of r, lent))
 c-sized =
-    one_by (λ (x : c-size.SizeAnswer × List ℕ). (size_of x.0, x.1))
-    (λ (y : SizeAnswer × List ℕ). (
-      record {
-        number = y.0.answer.number;
-        place = y.0.answer.place;
-        phases = y.0.answer.tally.phases;
-        moves = y.0.answer.tally.moves;
-        copies = y.0.answer.tally.copies;
-        size = y.0.size;
-      },
-      y.1,
-    )) (λ x. refl)
-
--- what the code gives, beside a lent list, and beside two
-given-listed : {A B : Type 0} (f : A → B) → OneToOne f → {allowed : B × List ℕ → Type 0} → One allowed → One (λ ((r, lent) : A × List ℕ). allowed (f r, lent))
-given-listed {A} {B} f same =
-    one_told (λ (x : A × List ℕ). (f x.0, x.1)) (λ x y e. let r = same x.0 y.0 (ap (λ (z : B × List ℕ). z.0) e) in λ i. (r i, (e i).1))
-
-given-both : {A B : Type 0} (f : A → B) → OneToOne f → {allowed : B × List ℕ × List ℕ → Type 0} → One allowed → One (λ ((r, l, m) : A × List ℕ × List ℕ). allowed (f r, l, m))
-given-both {A} {B} f same =
-    one_told (λ (x : A × List ℕ × List ℕ). (f x.0, x.1, x.2)) (λ x y e. let r = same x.0 y.0 (ap (λ (z : B × List ℕ × List ℕ). z.0) e) in λ i. (r i, (e i).1, (e i).2))
+    beside size_of
+    (read-back size_of
+    (λ (y : SizeAnswer). record {
+      number = y.answer.number;
+      place = y.answer.place;
+      phases = y.answer.tally.phases;
+      moves = y.answer.tally.moves;
+      copies = y.answer.tally.copies;
+      size = y.size;
+    }) (λ x. refl))
 
 pub one-outcome : OneOutcome
 one-outcome =
@@ -119,15 +116,15 @@ one-outcome =
       answer-done = answer-done-one;
       given-check-table = λ caps places. one_told _ checked-one (check-table-one caps places);
       given-slot_question = λ caps places g. one_told slot_answered slot_answered-one (slot_question-one caps places g);
-      given-phase-plan = λ caps places lent. given-listed answered answered-one (phase-plan-one caps places lent);
-      given-one-move = λ caps b places cards from to. given-both answered answered-one (one-move-one caps b places cards from to);
-      given-budgeted-moves = λ caps b places cards k. given-both answered answered-one (budgeted-moves-one caps b places cards k);
-      given-copy-list = λ caps places lent. given-listed answered answered-one (copy-list-one caps places lent);
-      given-shuffle-cards = λ caps b places cards. given-both answered answered-one (shuffle-cards-one caps b places cards);
-      given-whole-run = λ caps b places cards. given-both answered answered-one (whole-run-one caps b places cards);
-      given-read-file = λ file caps places. given-both file_answered file_answered-one (read-file-one file caps places);
-      given-write-file = λ caps b places cards lent. given-listed size_answered size_answered-one (write-file-one caps b places cards lent);
-      given-list_job = λ file lent. given-listed size_answered size_answered-one (list_job-one file lent);
+      given-phase-plan = λ caps places lent. beside answered answered-one (phase-plan-one caps places lent);
+      given-one-move = λ caps b places cards from to. beside_two answered answered-one (one-move-one caps b places cards from to);
+      given-budgeted-moves = λ caps b places cards k. beside_two answered answered-one (budgeted-moves-one caps b places cards k);
+      given-copy-list = λ caps places lent. beside answered answered-one (copy-list-one caps places lent);
+      given-shuffle-cards = λ caps b places cards. beside_two answered answered-one (shuffle-cards-one caps b places cards);
+      given-whole-run = λ caps b places cards. beside_two answered answered-one (whole-run-one caps b places cards);
+      given-read-file = λ file caps places. beside_two file_answered file_answered-one (read-file-one file caps places);
+      given-write-file = λ caps b places cards lent. beside size_answered size_answered-one (write-file-one caps b places cards lent);
+      given-list_job = λ file lent. beside size_answered size_answered-one (list_job-one file lent);
       given-card-bytes = λ file found. card-bytes-one file (file_answered found);
       given-read_job = given-read_job-one;
       c_check-table = λ caps places. c-same (check-table-one caps places);
