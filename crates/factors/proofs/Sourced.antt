@@ -1,12 +1,12 @@
 -- The inverse of the table, filled in one pass. Assumes nothing.
 use mathlib.Core.Path.{◌≡◌, refl, sym, ap, ◌∙◌}
 use mathlib.Core.Logic.{◌≢◌}
-use mathlib.Core.List.{List, ◌++◌}
+use mathlib.Core.List.{List}
 use Prim.Native.Nat.{ℕ, ◌+◌, ◌≤◌, ◌<◌}
 use native.Mathlib.Omega.{arith}
 use native.Mathlib.Numerals.{add-one}
 use native.Mathlib.Decide.{ℕ_discrete}
-use lib.ListN.{length, get_or, take, drop, set, replicate, length-set, length-append, length-drop, get_or-append, get_or-replicate, length-replicate}
+use lib.ListN.{length, get_or, take, set, replicate, length-set, get_or-replicate, length-replicate}
 use lib.Seq.{get_or-set_same, get_or-set_other, get_or-take, length-take-le}
 use borrow.Author.Tests.{eq-eqb, ne_eqb}
 use Rattle.counting.specs.Count.{seek}
@@ -29,15 +29,19 @@ pub record SourcesTo (places : List ℕ) (g : ℕ) (noted : List ℕ) : Type 0 w
 pub made_none : (n : ℕ) → n ≤ 4096 → (noted : List ℕ) → noted ≡ replicate 4097 65535 → NoSources n noted
 made_none n l noted e = rw e (record { none = λ d m. get_or-replicate 4097 d 65535 0 (omega arith); long = omega (arith, length-replicate {A = ℕ} 4097 65535) })
 
--- a list whose first n entries are cleared
-pub cleared_front : (n : ℕ) (noted front : List ℕ) → n ≤ 4096 → 4097 ≤ length noted → front ≡ replicate (length (take n noted)) 65535 → NoSources n (front ++ drop n noted)
-cleared_front n noted front small long e =
-    let i : front ≡ replicate n 65535 = rw (length-take-le n noted (omega arith)) at e in
-    let l : length front ≡ n = ap length i ∙ length-replicate {A = ℕ} n 65535 in
-    record {
-      none = λ d m. get_or-append front (drop n noted) 0 d (omega arith) ∙ rw i (get_or-replicate n d 65535 0 m);
-      long = omega (arith, length-append front (drop n noted), length-drop n noted, l);
-    }
+-- no entry is cleared yet
+pub cleared-none : (noted : List ℕ) → 4097 ≤ length noted → NoSources 0 noted
+cleared-none noted l = record { none = λ d m. absurd (omega arith); long = l }
+
+-- one entry more
+pub cleared_more : (d : ℕ) (noted : List ℕ) → d < length noted → NoSources d noted → NoSources (d + 1) (set noted d 65535)
+cleared_more d noted l s = record {
+  none = λ k m. elim (ℕ_discrete k d) [
+    | yes e ↦ rw e (get_or-set_same noted d 65535 0 l)
+    | no q ↦ get_or-set_other noted d k 65535 0 q ∙ s.none k (omega arith)
+  ];
+  long = omega (arith, length-set noted d 65535, s.long);
+}
 
 -- the card in slot g makes g the source of its destination
 pub put-source-is : (noted : List ℕ) (x g to : ℕ) → to ≡ named_slot 4096 x → set noted to g ≡ put_source noted x g

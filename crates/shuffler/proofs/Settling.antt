@@ -6,8 +6,8 @@ use mathlib.Core.List.{List}
 use Prim.Native.Nat.{ℕ, ◌+◌, ◌*◌, ◌≤◌, ◌<◌}
 use native.Mathlib.Omega.{arith}
 use native.Mathlib.Decide.{ℕ_discrete}
-use lib.ListN.{length, get_or, take, length-set}
-use lib.Seq.{get_or-set_same, get_or-set_other, get_or-take, length-take-le}
+use lib.ListN.{length, get_or, length-set}
+use lib.Seq.{get_or-set_same, get_or-set_other}
 use borrow.Author.Tests.{eq-eqb, ne_eqb}
 use Rattle.counting.specs.Lists.{tabulate, join}
 use Rattle.counting.proofs.Tests.{off}
@@ -140,13 +140,6 @@ settled-all places d places' frees n e t = record {
   listed = rw e at t.listed;
   size = t.size;
 }
-
--- a slot that is listed among the first n, as the part of the list has it
-pub listed-part : (S n : ℕ) (frees : List ℕ) → AllBelow S n frees → n ≤ length frees → (i : ℕ) → i < length (take n frees) → (get_or (take n frees) i 0 ≡ get_or frees i 0) × (get_or (take n frees) i 0 < S)
-listed-part S n frees below fits i l =
-    let m : i < n = omega (arith, length-take-le n frees fits) in
-    let e = get_or-take n frees i 0 m in
-    (e, rw e (below i m))
 
 -- no slot is zeroed yet
 pub zeroed-none : (b : ℕ) (frees cards : List ℕ) → Zeroed b frees 0 cards cards

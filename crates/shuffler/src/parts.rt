@@ -54,8 +54,8 @@ pub fn zero_slots(frees: &[u16], n: usize, cards: &mut [u8], b: usize, slots: us
     requires { AllBelow slots n frees.now × (n ≤ length frees.now) × (length cards.old ≡ slots * b) }
     ensures { Zeroed b frees.now n cards.old cards.new }
 {
-    for slot in &frees[..n] {
-        carrying::parts::blank_card(cards, b, *slot as usize);
+    for i in 0..n {
+        carrying::parts::blank_card(cards, b, frees[i] as usize);
     }
 }
 

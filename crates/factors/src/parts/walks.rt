@@ -49,7 +49,9 @@ pub fn clear_sources(sources: &mut [u16], n: usize)
     requires { (n ≤ SLOTS) × (SOURCES ≤ length sources.old) }
     ensures { NoSources n sources.new }
 {
-    sources[..n].fill(Job::FREE);
+    for d in 0..n {
+        sources[d] = Job::FREE;
+    }
 }
 
 // The inverse of the table, for each slot the slot whose card is bound for it, in one pass over a list as it is made or cleared.
