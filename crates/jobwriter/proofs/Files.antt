@@ -130,11 +130,14 @@ module _ {job : Job} {b : ℕ} {places cards racking : List ℕ} (o : OpenCards 
   cards-below = omega (arith, mul-le-mul_right b o.table.sound.small, o.long, o.bytes)
 
   -- and there are some, where each rack has a spare
-  pub cards-some : Spared (racks_of job) → cards_number job b places cards ≡ 0 → 0 < length cards
-  cards-some spared z =
-      let some = bytes-some b (cards-bytes job b places cards z) in
+  pub cards-some : Spared (racks_of job) → 0 < b → 0 < length cards
+  cards-some spared some =
       let here = rw suc-mul at (mul-le-mul_right b (spare_lt (racks_of job) spared 0 o.table.sound.some)) in
       omega (arith, here, o.long)
+
+  -- so b need not be asked for where the table and its cards pass
+  pub passed-some : Spared (racks_of job) → cards_number job b places cards ≡ 0 → 0 < length cards
+  passed-some spared z = cards-some spared (bytes-some b (cards-bytes job b places cards z))
 
 -- so the numbers are few bytes
 pub caps-few : {job : Job} → Sound job → length (numerals_of (each cap_of (racks_of job))) ≤ 128

@@ -2,7 +2,7 @@
 use mathlib.Core.Path.{◌≡◌, refl, ap, sym, ◌∙◌}
 use mathlib.Core.Bool.{Bool, true, false, not}
 use mathlib.Core.List.{List, ◌∷◌}
-use Prim.Native.Nat.{ℕ, ◌*◌}
+use Prim.Native.Nat.{ℕ, ◌*◌, ◌≤◌}
 use native.Mathlib.Omega.{arith}
 use lib.ListN.{length}
 use borrow.Author.Tests.{eq-eqb, ne_eqb, eqb-true}
@@ -21,7 +21,7 @@ use Rattle.racks.proofs.Legal.{checks-4, checks-entries}
 use Rattle.racks.specs.parts.Legal.{Legal}
 use Rattle.racks.proofs.LegalTable.{places-legal}
 use Rattle.entries.specs.parts.Marks.{entries_number, entries_refusal}
-use Rattle.tables.specs.parts.Tables.{Racked, OpenCards, Judged, Checked, CardsChecked, refusal_by, table_number, cards_number}
+use Rattle.tables.specs.parts.Tables.{Racked, OpenCards, Judged, Checked, CardsChecked, refusal_by, table_number, lent_number, cards_number}
 use Rattle.tables.proofs.Refusals.{number_by, placeless_by}
 
 module _ (job : Job) (places : List ℕ) where
@@ -84,34 +84,53 @@ module _ (racks : List Rack) (b : ℕ) (places cards : List ℕ) where
       cards-good (first_off (bad_size racks) 3 _ (λ e. omega arith) c.1).1
 
 module _ (job : Job) (b : ℕ) (places cards : List ℕ) where
+  -- whatever b is
+  module _ (s : Sound job) where
+    pub lent-4 : (length cards ≡ job.slots * b → ⊥) → placeless 4 ≡ refusal_by job places (lent_number job b places cards)
+    unfolding lent_number bad_cards
+    lent-4 f =
+        let g : length cards ≡ slots (racks_of job) * b → ⊥ = λ e. f (e ∙ ap (λ (n : ℕ). n * b) (sym (sound-slots job s))) in
+        placeless_by job places 4 _ (refl, refl) (sym (first-here _ 4 _ (or_r (bad_places (racks_of job) places) (ap not (ne_eqb (length cards) (slots (racks_of job) * b) g)))))
+
+    pub lent-table : length cards ≡ job.slots * b → table_number job places ≡ lent_number job b places cards
+    unfolding table_number lent_number bad_cards places_checks
+    lent-table e =
+        let q : length cards ≡ slots (racks_of job) * b = e ∙ ap (λ (n : ℕ). n * b) (sound-slots job s) in
+        ap (λ (x : Bool). first ((x, 4) ∷ entry_checks (racks_of job) places))
+        (sym (or_false (bad_places (racks_of job) places) (ap not (eq-eqb (length cards) (slots (racks_of job) * b) q))))
+
+    -- a table with cards that is not refused is accepted
+    pub lent_open : b ≤ 256 → (racking : List ℕ) → Racked (racks_of job) racking → lent_number job b places cards ≡ 0 → OpenCards job b places cards racking
+    unfolding lent_number
+    lent_open l racking racked z =
+        let g = cards-good (racks_of job) b places cards z in
+        record {
+          table = record { sound = s; legal = g.0; filled = racked.filled; long = racked.long };
+          bytes = l;
+          long = g.1;
+        }
+
+  -- where b is looked at too
   pub cards-2 : bad_bytes b ≡ true → placeless 2 ≡ refusal_by job places (cards_number job b places cards)
   unfolding cards_number
   cards-2 h = placeless_by job places 2 _ (refl, refl) (sym (first-here _ 2 _ h))
 
-  -- past what B is refused with
-  past-2 : bad_bytes b ≡ false → cards_number job b places cards ≡ first ((bad_places (racks_of job) places or bad_cards (racks_of job) b cards, 4) ∷ entry_checks (racks_of job) places)
-  unfolding cards_number
-  past-2 h = first-later _ 2 _ h
+  -- past what it is refused with
+  pub cards-lent : bad_bytes b ≡ false → lent_number job b places cards ≡ cards_number job b places cards
+  unfolding lent_number cards_number
+  cards-lent h = sym (first-later _ 2 _ h)
 
-  -- where a table and its cards pass, B does
+  -- where a table and its cards pass, b does
   pub cards-bytes : cards_number job b places cards ≡ 0 → bad_bytes b ≡ false
   unfolding cards_number
   cards-bytes z = (first_off (bad_bytes b) 2 _ (λ e. omega arith) z).0
 
   module _ (s : Sound job) (h : bad_bytes b ≡ false) where
     pub cards-4 : (length cards ≡ job.slots * b → ⊥) → placeless 4 ≡ refusal_by job places (cards_number job b places cards)
-    unfolding bad_cards
-    cards-4 f =
-        let g : length cards ≡ slots (racks_of job) * b → ⊥ = λ e. f (e ∙ ap (λ (n : ℕ). n * b) (sym (sound-slots job s))) in
-        placeless_by job places 4 _ (refl, refl) (sym (past-2 h ∙ first-here _ 4 _ (or_r (bad_places (racks_of job) places) (ap not (ne_eqb (length cards) (slots (racks_of job) * b) g)))))
+    cards-4 f = lent-4 s f ∙ ap (refusal_by job places) (cards-lent h)
 
     pub cards-table : length cards ≡ job.slots * b → table_number job places ≡ cards_number job b places cards
-    unfolding table_number bad_cards places_checks
-    cards-table e =
-        let q : length cards ≡ slots (racks_of job) * b = e ∙ ap (λ (n : ℕ). n * b) (sound-slots job s) in
-        ap (λ (x : Bool). first ((x, 4) ∷ entry_checks (racks_of job) places))
-        (sym (or_false (bad_places (racks_of job) places) (ap not (eq-eqb (length cards) (slots (racks_of job) * b) q))))
-        ∙ sym (past-2 h)
+    cards-table e = lent-table s e ∙ cards-lent h
 
   -- a table with cards that is refused
   pub cards-refused : (x : Refusal) (racking : List ℕ) → x ≡ refusal_by job places (cards_number job b places cards) → (x.number ≡ 0 → ⊥)
@@ -122,9 +141,4 @@ module _ (job : Job) (b : ℕ) (places cards : List ℕ) where
   pub cards_open : Sound job → (racking : List ℕ) → Racked (racks_of job) racking → cards_number job b places cards ≡ 0 → OpenCards job b places cards racking
   cards_open s racking racked z =
       let h = cards-bytes z in
-      let g = cards-good (racks_of job) b places cards (sym (past-2 h) ∙ z) in
-      record {
-        table = record { sound = s; legal = g.0; filled = racked.filled; long = racked.long };
-        bytes = bytes-few b h;
-        long = g.1;
-      }
+      lent_open s (bytes-few b h) racking racked (cards-lent h ∙ z)

@@ -71,7 +71,12 @@ pub record Checked (job : Job) (places : List ℕ) (refusal : Refusal) (racking 
   pub refusal_is : refusal ≡ refusal_by job places (table_number job places)
   pub opened : refusal.number ≡ 0 → Open job places racking
 
--- the number of a table and its cards, by a job: 2, then 4 to 6
+-- the number of a table and its cards, by a job, whatever b is: 4 to 6
+unfoldable pub lent_number : Job → ℕ → List ℕ → List ℕ → ℕ
+lent_number job b places cards =
+    first ((bad_places (racks_of job) places or bad_cards (racks_of job) b cards, 4) ∷ entry_checks (racks_of job) places)
+
+-- and where b is looked at too: 2, then 4 to 6
 unfoldable pub cards_number : Job → ℕ → List ℕ → List ℕ → ℕ
 cards_number job b places cards =
     first

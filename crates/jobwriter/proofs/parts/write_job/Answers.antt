@@ -11,7 +11,7 @@ use Rattle.tables.proofs.Tables.{cards-checked-number}
 use Rattle.tables.proofs.Refusals.{kept_by}
 use Rattle.jobwriter.specs.Writing.{file_for}
 use Rattle.jobwriter.specs.parts.Puts.{write_number, filed_by}
-use Rattle.jobwriter.proofs.Files.{writable, cards-below, cards-some, numbers-few, file-size, write-19, write-none}
+use Rattle.jobwriter.proofs.Files.{writable, cards-below, passed-some, numbers-few, file-size, write-19, write-none}
 use Rattle.jobwriter.proofs.parts.write_job.Goals as goal
 use Rattle.jobwriter.proofs.parts.write_job.Goals.{In_ok-check_cards}
 
@@ -24,7 +24,7 @@ module _ (c : In_ok-check_cards) where
   opened = c.in_ok-check_cards.ensures.opened refl
 
   some : 0 < length c.args.cards.now
-  some = cards-some opened c.requires.1 none
+  some = passed-some opened c.requires.1 none
 
 pub check_cards-requires : goal.check_cards-requires
 check_cards-requires c = (c.requires.0, refl)
