@@ -227,19 +227,21 @@ module _ {job : Job} {b : ℕ} {places : List ℕ} (o : Writable job b places) (
 
 -- the refusal of the writer
 module _ (job : Job) (b : ℕ) (places cards lent : List ℕ) where
-  -- accepted, with so many bytes of numbers
-  module _ (z : cards_number job b places cards ≡ 0) (n : ℕ) (is : n ≡ length (numerals_of (file_numbers (racks_of job) b places))) where
+  -- with so many bytes of numbers
+  module _ (n : ℕ) (is : n ≡ length (numerals_of (file_numbers (racks_of job) b places))) where
     -- the file's length
     pub file-size : n + length cards ≡ length (file_for (racks_of job) b places cards)
     unfolding file_for
     file-size = omega (arith, is, length-append (numerals_of (file_numbers (racks_of job) b places)) cards)
 
+  -- and the table and its cards pass
+  module _ (z : cards_number job b places cards ≡ 0) (n : ℕ) (is : n ≡ length (numerals_of (file_numbers (racks_of job) b places))) where
     -- the buffer is too short
     pub write-19 : length lent < n + length cards → placeless 19 ≡ refusal_by job places (write_number job b places cards lent)
     unfolding write_number too_short
     write-19 h =
         placeless_by job places 19 _ (refl, refl)
-        (sym (known_past (cards_number job b places cards) _ z ∙ first-here _ 19 [] (lt-ltb (length lent) (length (file_for (racks_of job) b places cards)) (omega (arith, file-size)))))
+        (sym (known_past (cards_number job b places cards) _ z ∙ first-here _ 19 [] (lt-ltb (length lent) (length (file_for (racks_of job) b places cards)) (omega (arith, file-size n is)))))
 
     -- it is not
     pub write-none : n + length cards ≤ length lent → placeless 0 ≡ refusal_by job places (write_number job b places cards lent)
@@ -248,7 +250,7 @@ module _ (job : Job) (b : ℕ) (places cards lent : List ℕ) where
         placeless_by job places 0 _ (refl, refl)
         (sym
         (known_past (cards_number job b places cards) _ z
-        ∙ first-later _ 19 [] (le-ltb (length lent) (length (file_for (racks_of job) b places cards)) (omega (arith, file-size)))
+        ∙ first-later _ 19 [] (le-ltb (length lent) (length (file_for (racks_of job) b places cards)) (omega (arith, file-size n is)))
         ∙ first-none))
 
 -- a job made from capacities gives their file

@@ -55,7 +55,7 @@ pub put_file-requires : goal.put_file-requires
 put_file-requires c =
     let s = c.args in
     let ok = (goal.at.put_file-requires c).In_ok-check_cards in
-    (writable (opened ok), some ok, omega (arith, file-size s.job.now s.b s.places.now s.cards.now s.out.now (none ok) _ c.numbers_size.ensures, c.if-out-size.false))
+    (writable (opened ok), some ok, omega (arith, file-size s.job.now s.b s.places.now s.cards.now s.out.now _ c.numbers_size.ensures, c.if-out-size.false))
 
 pub returns : goal.returns
 unfolding filed_by
@@ -64,5 +64,5 @@ returns c =
     let e = none (goal.at.returns c).In_ok-check_cards in
     let n = c.numbers_size.ensures in
     sized-done (refusal_by s.job.now s.places.now (write_number s.job.now s.b s.places.now s.cards.now s.out.now)) (file_for (racks_of s.job.now) s.b s.places.now s.cards.now) s.out.now _ _
-    (file-size s.job.now s.b s.places.now s.cards.now s.out.now e _ n) c.put_file.ensures
+    (file-size s.job.now s.b s.places.now s.cards.now s.out.now _ n) c.put_file.ensures
     (write-none s.job.now s.b s.places.now s.cards.now s.out.now e _ n (omega (arith, c.if-out-size.false)))
